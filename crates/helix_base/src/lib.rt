@@ -1,0 +1,18 @@
+//! What every crate of helix stands on: a text as its code points, lists of bytes and of small
+//! numbers, and the want of memory.
+//!
+//! A clause sees a [`Text`], a [`Bytes`] and a [`Numbers32`] as the list of what it holds.
+#![tactic(auto)]
+
+mod bytes;
+mod memory;
+mod numbers;
+mod text;
+
+pub use bytes::Bytes;
+pub use memory::Memory;
+pub use numbers::Numbers32;
+pub use text::Text;
+
+#[cfg(test)]
+mod tests;
