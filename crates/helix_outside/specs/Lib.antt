@@ -1,4 +1,5 @@
 pub mod Count
 pub mod Files
+pub mod FileLaws
 pub mod Disk
 pub mod Console

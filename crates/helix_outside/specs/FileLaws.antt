@@ -1,0 +1,45 @@
+-- Laws of files: what an insert and an append leave.
+use Rattle.std.specs.Prelude.{◌≡◌, ℕ, Bool, true, false, cond, List, [], ◌∷◌, ◌++◌, Option, Some, None, unwrap_or, refl}
+use Rattle.std.specs.Ordering.{nat_cmp, is_eq, eq_by_cmp}
+use Rattle.std.specs.Cmp.{tied_itself}
+use Rattle.std.specs.Cmp.Lexicographic.{slice_cmp, nat_list_cmp_total}
+use Rattle.std.specs.FinMap.{get, insert, get-insert, same_map, slice_cmp-IsAntisymmetric, nat_cmp-IsAntisymmetric}
+use Rattle.std.proofs.Common.{ap, sym, ◌∙◌, append_assoc, append-nil}
+use Rattle.helix_outside.specs.Files.{FileMap, content, appended}
+
+twice : {X : Type 0} (b : Bool) (x y z : X) → cond b x (cond b y z) ≡ cond b x z
+twice true x y z = refl
+twice false x y z = refl
+
+-- a file that was set is read back
+pub get_same : (files : FileMap) (name bytes : List ℕ) → get (insert files name bytes) name ≡ Some bytes
+get_same files name bytes =
+    get-insert nat_list_cmp_total files name bytes name
+    ∙ ap (λ o. cond (is_eq o) (Some bytes) (get files name)) (tied_itself nat_list_cmp_total name)
+
+-- of two settings of one file the later one counts
+pub insert_again : (files : FileMap) (name first second : List ℕ) → insert (insert files name first) name second ≡ insert files name second
+insert_again files name first second =
+    same_map nat_list_cmp_total (slice_cmp-IsAntisymmetric nat_cmp-IsAntisymmetric) _ _
+    (λ q. get-insert nat_list_cmp_total (insert files name first) name second q
+        ∙ ap (cond (eq_by_cmp (slice_cmp nat_cmp) q name) (Some second)) (get-insert nat_list_cmp_total files name first q)
+        ∙ twice (eq_by_cmp (slice_cmp nat_cmp) q name) _ _ _
+        ∙ sym (get-insert nat_list_cmp_total files name second q))
+
+-- what a file that was set holds
+pub content_same : (files : FileMap) (name bytes : List ℕ) → content (insert files name bytes) name ≡ bytes
+content_same files name bytes = ap (λ o. unwrap_or o []) (get_same files name bytes)
+
+-- bytes behind those of a file that was set
+pub appended-insert : (files : FileMap) (name front back : List ℕ) → appended (insert files name front) name back ≡ insert files name (front ++ back)
+appended-insert files name front [] = ap (insert files name) (sym (append-nil front))
+appended-insert files name front (byte ∷ back) =
+    insert_again files name front (content (insert files name front) name ++ byte ∷ back)
+    ∙ ap (λ bytes. insert files name (bytes ++ byte ∷ back)) (content_same files name front)
+
+-- bytes are appended in pieces
+pub appended-appended : (files : FileMap) (name front back : List ℕ) → appended (appended files name front) name back ≡ appended files name (front ++ back)
+appended-appended files name [] back = refl
+appended-appended files name (byte ∷ front) back =
+    appended-insert files name (content files name ++ byte ∷ front) back
+    ∙ ap (insert files name) (append_assoc (content files name) (byte ∷ front) back)

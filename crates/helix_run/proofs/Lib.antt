@@ -1,0 +1,12 @@
+pub mod Putting
+pub mod WholeFile
+pub mod WholeInput
+pub mod Patterns
+pub mod Names
+pub mod Profiles
+pub mod AnswerRows
+pub mod Outcomes
+pub mod Known
+pub mod CauseLaws
+pub mod LeftLaws
+pub mod ScriptLaws

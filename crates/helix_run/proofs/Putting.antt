@@ -1,0 +1,61 @@
+-- Bytes that are appended piece by piece.
+use Rattle.std.proofs.Common.{◌≡◌, ℕ, ◌+◌, ◌-◌, ◌≤◌, List, [], length, take, drop, refl, sym, ◌∙◌, ap, subst, arith, take_all, length-drop}
+use Rattle.std.proofs.Math.Seq.{take-add}
+use Rattle.std.specs.Prelude.{Result, Ok, Err, IsErr, unwrap_or}
+use Rattle.helix_outside.specs.Count.{Rose}
+use Rattle.helix_outside.specs.Files.{FileMap, appended}
+use Rattle.helix_outside.specs.FileLaws.{appended-appended}
+use Rattle.helix_outside.specs.Disk.{State, Writes, written}
+use Rattle.helix_run.specs.Writing.{HasPut, PutsAll}
+
+pub HasPut-start : (old : State) (bytes : List ℕ) → HasPut old bytes 0 old
+HasPut-start old bytes = record { told = refl; read_faults = refl; write_faults = refl; output = refl; within = omega arith; files = λ t. refl }
+
+-- what a piece more leaves
+files_further : (old now : State) (bytes : List ℕ) (done n : ℕ) (files : FileMap)
+    → now.output ≡ old.output → now.files ≡ written old (take done bytes) → files ≡ written now (take n (drop done bytes))
+    → files ≡ written old (take (done + n) bytes)
+files_further old now bytes done n files output so_far more =
+    more
+    ∙ ap (λ o. appended now.files (unwrap_or o []) (take n (drop done bytes))) output
+    ∙ ap (λ f. appended f (unwrap_or old.output []) (take n (drop done bytes))) so_far
+    ∙ appended-appended old.files (unwrap_or old.output []) (take done bytes) (take n (drop done bytes))
+    ∙ ap (appended old.files (unwrap_or old.output [])) (sym (take-add done n bytes))
+
+-- the rest of a slice, as code names it
+pub rest_of : (bytes : List ℕ) (done : ℕ) → take (length bytes - done) (drop done bytes) ≡ drop done bytes
+rest_of bytes done = take_all (length bytes - done) (drop done bytes) (omega (arith, length-drop done bytes))
+
+module _ (old now next : State) (bytes rest : List ℕ) (done : ℕ) (so_far : HasPut old bytes done now) (left : rest ≡ drop done bytes) where
+  pub HasPut-step : {E : Type 0} (n : ℕ) → Writes {E = E} now rest (Ok n) next → HasPut old bytes (done + n) next
+  HasPut-step n call = record {
+    told = call.told ∙ so_far.told;
+    read_faults = call.read_faults ∙ so_far.read_faults;
+    write_faults = call.write_faults.ok ∙ so_far.write_faults;
+    output = call.output ∙ so_far.output;
+    within = omega (arith, length-drop done bytes, ap length left);
+    files = λ told.
+        files_further old now bytes done n next.files so_far.output (so_far.files told)
+        (call.appended (so_far.told ∙ told) ∙ ap (λ r. written now (take n r)) left);
+  }
+
+  pub PutsAll-failed : {T E F : Type 0} (e : E) (result : Result T F) → IsErr result → Writes {E = E} now rest (Err e) next → PutsAll old bytes result next
+  PutsAll-failed e (Ok x) is call = absurd (cc)
+  PutsAll-failed e (Err f) is call = record {
+    told = call.told ∙ so_far.told;
+    read_faults = call.read_faults ∙ so_far.read_faults;
+    output = call.output ∙ so_far.output;
+    write_faults = record {
+      grows = omega (arith, call.write_faults.grows, so_far.write_faults);
+      ok = tt;
+      failed = subst (λ n. Rose n next.write_faults) so_far.write_faults call.write_faults.failed;
+    };
+    all = tt;
+    part = λ told.
+        let failed : (n : ℕ) × (n ≤ length rest) × (next.files ≡ written now (take n rest)) = call.failed (so_far.told ∙ told) in (
+          done + failed.0,
+          omega (arith, length-drop done bytes, ap length left, failed.1),
+          files_further old now bytes done failed.0 next.files so_far.output (so_far.files told)
+              (failed.2 ∙ ap (λ r. written now (take failed.0 r)) left),
+        );
+  }

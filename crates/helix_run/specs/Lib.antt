@@ -1,0 +1,14 @@
+pub mod Words
+pub mod Profile
+pub mod Rows
+pub mod Output
+pub mod Lines
+pub mod Script
+pub mod Outside
+pub mod Causes
+pub mod Left
+pub mod Reading
+pub mod Writing
+pub mod Pattern
+pub mod Name
+pub mod Outcome

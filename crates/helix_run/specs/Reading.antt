@@ -1,0 +1,37 @@
+-- What reading a whole file does.
+use Rattle.std.specs.Prelude.{◌≡◌, ℕ, List, ◌++◌, take, Some, IsSome, unwrap_or, [], MatchBool, IsTrue}
+use Rattle.std.specs.FinMap.{get}
+use Rattle.helix_outside.specs.Count.{Rose}
+use Rattle.helix_outside.specs.Disk.{State, is_missing}
+use Rattle.helix_run.specs.declared.reading.ReadError.{ReadError}
+use Rattle.helix_run.specs.declared.reading.ReadError.TheVariants.{Fault, Memory}
+
+-- at most this many bytes of a file are read: one more than a profile may have
+abbrev pub read_limit : ℕ
+read_limit = 1048577
+
+-- reading leaves all files and the count of write faults as they were
+pub record OnlyReads (old new : State) : Type 0 where
+  pub told : new.told ≡ old.told
+  pub files : new.files ≡ old.files
+  pub write_faults : new.write_faults ≡ old.write_faults
+
+-- the bytes are those of the named file, up to the limit, where the disk tells them
+abbrev pub AreRead : State → List ℕ → List ℕ → Type 0
+AreRead disk name bytes = IsTrue disk.told → (whole : List ℕ) × (get disk.files name ≡ Some whole) × (bytes ≡ take read_limit whole)
+
+-- reading fails where the file isn't there, and else only where the count of read faults rose
+abbrev pub FailsToRead : State → List ℕ → State → Type 0
+FailsToRead old name new = MatchBool (is_missing old name) (new.read_faults ≡ old.read_faults) (Rose old.read_faults new.read_faults)
+
+-- why a file was not read: the disk failed, or memory is wanting
+abbrev pub StopsReading : State → List ℕ → ReadError → State → Type 0
+StopsReading old name Fault new = FailsToRead old name new
+StopsReading old name Memory new = new.read_faults ≡ old.read_faults
+
+-- so far: the file is open, and the bytes stand before what is left of it
+pub record HasRead (old : State) (name : List ℕ) (new : State) (bytes : List ℕ) : Type 0 where
+  pub only_reads : OnlyReads old new
+  pub read_faults : new.read_faults ≡ old.read_faults
+  pub still_open : IsSome new.input
+  pub whole : IsTrue old.told → get old.files name ≡ Some (bytes ++ unwrap_or new.input [])
