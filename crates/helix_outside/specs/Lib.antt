@@ -1,4 +1,6 @@
 pub mod Count
 pub mod Files
+pub mod FileLaws
 pub mod Disk
 pub mod Console
+pub mod Entries
