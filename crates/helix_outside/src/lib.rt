@@ -6,14 +6,18 @@
 
 mod calls;
 mod console;
+mod counting;
 mod disk;
 mod entries;
 mod files;
+mod input;
+mod memory_disk;
 
 pub use calls::Calls;
 pub use console::Console;
 pub use disk::{Disk, Failed};
 pub use files::Files;
+pub use memory_disk::MemoryDisk;
 
 #[cfg(test)]
 mod tests;
