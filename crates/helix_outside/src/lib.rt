@@ -1,11 +1,23 @@
 //! The outside of a run: a disk and a console, as two traits, with implementations for tests.
 //!
 //! The meaning of every call, what a failure leaves and what it counts, stands in `specs/Disk.antt`,
-//! `specs/Console.antt` and `specs/Count.antt`.
+//! `specs/Console.antt` and `specs/Count.antt`; files stand in `specs/Files.antt`.
 #![tactic(auto)]
 
+mod calls;
 mod console;
+mod counting;
 mod disk;
+mod entries;
+mod files;
+mod input;
+mod memory_disk;
 
+pub use calls::Calls;
 pub use console::Console;
 pub use disk::{Disk, Failed};
+pub use files::Files;
+pub use memory_disk::MemoryDisk;
+
+#[cfg(test)]
+mod tests;

@@ -1,0 +1,20 @@
+-- A list of entries as files: the first entry with a name holds the file of that name.
+use Rattle.std.specs.Prelude.{◌≡◌, ℕ, ◌<◌, List, map, length, slice_index_or, take, None}
+use Rattle.std.specs.Ordering.{nat_cmp}
+use Rattle.std.specs.Cmp.Lexicographic.{slice_cmp}
+use Rattle.std.specs.FinMap.{find, from_entries}
+use Rattle.helix_outside.specs.Files.{FileMap}
+use Rattle.helix_outside.specs.declared.entries.Entry.{Entry}
+
+-- the name and the bytes of an entry
+abbrev pub pair_of : Entry → List ℕ × List ℕ
+pair_of entry = (entry.name.items, entry.bytes.items)
+
+abbrev pub files_of : List Entry → FileMap
+files_of entries = from_entries (map pair_of entries)
+
+-- the entry at this place is the first one with the name
+pub record IsPlace (entries : List Entry) (name : List ℕ) (place : ℕ) : Type 0 where
+  pub within : place < length entries
+  pub named : (d : Entry) → (slice_index_or entries place d).name.items ≡ name
+  pub first : find (slice_cmp nat_cmp) name (map pair_of (take place entries)) ≡ None
