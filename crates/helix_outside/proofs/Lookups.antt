@@ -1,13 +1,14 @@
 -- What a list of entries holds at a name, and what a write of one entry and a new entry make of it.
 use Rattle.std.proofs.Common.{◌≡◌, ◌≢◌, ℕ, ◌+◌, ◌<◌, zero, suc, Bool, true, false, cond, List, [], ◌∷◌, ◌++◌, map, length, get_or, set, take, Option, Some, None, ap, sym, ◌∙◌, refl, arith, subst, take_all, unwrap_or, eqb, Result, Ok, Err, OnErr}
 use Rattle.std.proofs.lemmas.List.{map-set, set-get_or, take-map, get_or-map, length-map, map_more}
+use Rattle.std.proofs.lemmas.Option.{slice_get-get_or, slice_get_past}
 use Rattle.std.specs.Ordering.{nat_cmp, is_eq, eq_by_cmp}
 use Rattle.std.specs.Cmp.{tied_itself}
 use Rattle.std.specs.Cmp.Lexicographic.{slice_cmp, nat_list_cmp_total}
 use Rattle.std.specs.FinMap.{find, get, insert, from_entries, get-from_entries, from_entries_push}
-use Rattle.helix_outside.specs.Files.{FileMap, appended}
+use Rattle.helix_outside.specs.Files.{FileMap, content, appended}
 use Rattle.helix_outside.specs.FileLaws.{one_name, same_name, insert_again, insert_swap}
-use Rattle.helix_outside.specs.Entries.{pair_of, files_of, IsPlace}
+use Rattle.helix_outside.specs.Entries.{pair_of, files_of, bytes_of, bytes_at, IsPlace}
 use Rattle.helix_outside.specs.declared.entries.Entry.{Entry}
 
 -- what is missing in a list is not its first entry, and missing in the rest
@@ -107,3 +108,13 @@ on_err (Err e) p = p
 pub not_empty : (n : ℕ) → false ≡ eqb n 0 → 0 < n
 not_empty zero e = cc
 not_empty (suc n) e = omega arith
+
+-- a place and the end have what the files hold
+pub bytes_at_place : (entries : List Entry) (name : List ℕ) (place : ℕ) → IsPlace entries name place → bytes_at entries place ≡ content (files_of entries) name
+bytes_at_place [] name place is = absurd (omega (arith, is.within))
+bytes_at_place (e ∷ entries) name place is =
+    ap bytes_of (slice_get-get_or (e ∷ entries) place e is.within)
+    ∙ sym (ap (λ o. unwrap_or o []) (place_get (e ∷ entries) name place e is))
+
+pub bytes_at_end : (entries : List Entry) (name : List ℕ) → get (files_of entries) name ≡ None → bytes_at entries (length entries) ≡ content (files_of entries) name
+bytes_at_end entries name none = ap bytes_of (slice_get_past entries (length entries) (omega arith)) ∙ sym (ap (λ o. unwrap_or o []) none)

@@ -1,5 +1,5 @@
 -- A list of entries as files: the first entry with a name holds the file of that name.
-use Rattle.std.specs.Prelude.{◌≡◌, ℕ, ◌<◌, List, map, length, slice_index_or, take, None}
+use Rattle.std.specs.Prelude.{◌≡◌, ℕ, ◌<◌, List, map, length, slice_get, slice_index_or, take, [], Option, Some, None}
 use Rattle.std.specs.Ordering.{nat_cmp}
 use Rattle.std.specs.Cmp.Lexicographic.{slice_cmp}
 use Rattle.std.specs.FinMap.{find, from_entries}
@@ -18,3 +18,11 @@ pub record IsPlace (entries : List Entry) (name : List ℕ) (place : ℕ) : Type
   pub within : place < length entries
   pub named : (d : Entry) → (slice_index_or entries place d).name.items ≡ name
   pub first : find (slice_cmp nat_cmp) name (map pair_of (take place entries)) ≡ None
+
+-- the bytes of the entry at this place, and none past the end
+abbrev pub bytes_of : Option Entry → List ℕ
+bytes_of None = []
+bytes_of (Some entry) = entry.bytes.items
+
+abbrev pub bytes_at : List Entry → ℕ → List ℕ
+bytes_at entries place = bytes_of (slice_get entries place)

@@ -6,3 +6,6 @@ pub mod Disk
 pub mod Console
 pub mod Entries
 pub mod DiskInMemory
+pub mod ConsoleInMemory
+pub mod SteadyDisk
+pub mod SteadyConsole

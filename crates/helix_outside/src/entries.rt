@@ -2,8 +2,8 @@
 
 ghost use Rattle.std.specs.Prelude.{◌≡◌, None, OnOk, OnErr, IfSome, IfNone, option_copied};
 ghost use Rattle.std.specs.FinMap.{get, insert};
-ghost use Rattle.helix_outside.specs.Files.{appended};
-ghost use Rattle.helix_outside.specs.Entries.{files_of, IsPlace};
+ghost use Rattle.helix_outside.specs.Files.{content, appended};
+ghost use Rattle.helix_outside.specs.Entries.{files_of, bytes_at, IsPlace};
 
 use helix_base::Memory;
 
@@ -34,6 +34,27 @@ pub(crate) fn bytes_of<'a>(entries: &'a [Entry], name: &[u8]) -> Option<&'a [u8]
     match place_of(entries, name) {
         Some(place) => Some(entries[place].bytes.as_slice()),
         None => None,
+    }
+}
+
+/// The place of the file of this name, or the end where there is none.
+pub(crate) fn place_or_end(entries: &[Entry], name: &[u8]) -> usize
+    ensures { bytes_at entries.now result ≡ content (files_of entries.now) name.now }
+{
+    match place_of(entries, name) {
+        Some(place) => place,
+        None => entries.len(),
+    }
+}
+
+/// What the file at this place holds, and nothing past the end.
+pub(crate) fn bytes_at(entries: &[Entry], place: usize) -> &[u8]
+    ensures { result.now ≡ bytes_at entries.now place }
+{
+    if place < entries.len() {
+        entries[place].bytes.as_slice()
+    } else {
+        &[]
     }
 }
 

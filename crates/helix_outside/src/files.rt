@@ -2,6 +2,7 @@
 
 ghost use Rattle.std.specs.Prelude.{◌≡◌, OnOk, OnErr, option_copied};
 ghost use Rattle.std.specs.FinMap.{empty, get, insert};
+ghost use Rattle.helix_outside.specs.Entries.{files_of};
 ghost use Rattle.helix_outside.specs.Files.{appended};
 
 use crate::entries;
@@ -70,6 +71,13 @@ impl Files {
         ensures err { OnErr result (self.new ≡ self.old) }
     {
         entries::append(&mut self.entries, name, bytes)
+    }
+
+    /// The entries, of which the first one with a name counts.
+    pub(crate) fn into_entries(self) -> Vec<Entry>
+        ensures { files_of result.items ≡ self }
+    {
+        self.entries
     }
 
     /// The allocator of the files.

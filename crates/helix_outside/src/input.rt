@@ -14,13 +14,11 @@ pub(crate) struct Input {
 }
 
 impl Model for Input {
-    ghost use Rattle.std.specs.Prelude.{List, ℕ, drop, length, ◌≤◌};
+    ghost use Rattle.std.specs.Prelude.{List, ℕ, drop};
 
     ghost Value = { List ℕ };
 
     ghost view = { λ input. drop input.position input.bytes.items };
-
-    ghost invariant = { λ input. input.position ≤ length input.bytes.items };
 }
 
 impl Input {
@@ -39,10 +37,21 @@ impl Input {
         ensures given { self.old ≡ take result buffer.new ++ self.new }
         ensures others { drop result buffer.new ≡ drop result buffer.old }
     {
-        let count = fill(&self.bytes.as_slice()[self.position..], buffer);
-        self.position += count;
-        count
+        read_on(self.bytes.as_slice(), &mut self.position, buffer)
     }
+}
+
+/// Reads on in `bytes`, from `position` on: fills a front part of `buffer`, all of it where as many bytes are
+/// left, and answers its length.
+pub(crate) fn read_on(bytes: &[u8], position: &mut usize, buffer: &mut [u8]) -> usize
+    ensures count { result ≡ min (length buffer.old) (length (drop position.old bytes.now)) }
+    ensures given { drop position.old bytes.now ≡ take result buffer.new ++ drop position.new bytes.now }
+    ensures others { drop result buffer.new ≡ drop result buffer.old }
+{
+    let from = (*position).min(bytes.len());
+    let count = fill(&bytes[from..], buffer);
+    *position = from + count;
+    count
 }
 
 /// Copies the front of `bytes` to the front of `buffer`, as much as both have.

@@ -11,13 +11,19 @@ mod disk;
 mod entries;
 mod files;
 mod input;
+mod memory_console;
 mod memory_disk;
+mod steady_console;
+mod steady_disk;
 
 pub use calls::Calls;
 pub use console::Console;
 pub use disk::{Disk, Failed};
 pub use files::Files;
+pub use memory_console::MemoryConsole;
 pub use memory_disk::MemoryDisk;
+pub use steady_console::SteadyConsole;
+pub use steady_disk::SteadyDisk;
 
 #[cfg(test)]
 mod tests;

@@ -1,6 +1,8 @@
 ghost use Rattle.std.specs.Prelude.{◌≤◌};
 
-use crate::{Calls, Disk, Failed, Files, MemoryDisk};
+use crate::{
+    Calls, Console, Disk, Failed, Files, MemoryConsole, MemoryDisk, SteadyConsole, SteadyDisk,
+};
 use std::alloc::Global;
 use std::process::Abort;
 use std::test::Fail;
@@ -60,7 +62,7 @@ fn calls_are_listed_in_order(rt: HostRuntime) -> Result<(), Fail> {
 }
 
 /// Copies two bytes of `in` to `out`, in five calls.
-fn copies_two_bytes(disk: &mut MemoryDisk) -> Result<(), Failed> {
+fn copies_two_bytes<D: Disk>(disk: &mut D) -> Result<(), Failed> {
     disk.begin_read("in")?;
     let mut buffer = [0; 2];
     disk.read(&mut buffer)?;
@@ -151,28 +153,61 @@ fn a_file_is_read_in_pieces(rt: HostRuntime) -> Result<(), Fail> {
     Ok(())
 }
 
+/// Reads `in` after its bytes were replaced, and adds to them before the first read.
+fn reads_while_it_writes(disk: &mut MemoryDisk, buffer: &mut [u8]) -> Result<usize, Failed> {
+    disk.begin_write("in", true)?;
+    disk.write(b"xyz")?;
+    disk.begin_read("in")?;
+    disk.write(b"12")?;
+    disk.read(buffer)
+}
+
 #[test]
 fn an_input_stays_as_it_was_opened(rt: HostRuntime) -> Result<(), Fail> {
     let alloc = rt.alloc();
     let mut disk = MemoryDisk::open(two_files(alloc)?, Calls::new(alloc));
-    disk.begin_write("in", true)?;
-    assert_eq!(rt; text_of(disk.file("in")), Some(""));
-    assert_eq!(rt; disk.write(b"xyz")?, 3);
-    disk.begin_read("in")?;
-    assert_eq!(rt; disk.write(b"")?, 0);
-    assert_eq!(rt; disk.write(b"12")?, 2);
-    disk.finish()?;
     let mut buffer = [0; 4];
-    assert_eq!(rt; disk.read(&mut buffer)?, 3);
+    assert_eq!(rt; reads_while_it_writes(&mut disk, &mut buffer)?, 3);
     assert_eq!(rt; buffer, [120, 121, 122, 0]);
-    assert_eq!(rt; disk.read(&mut buffer)?, 0);
     assert_eq!(rt; text_of(disk.file("in")), Some("xyz12"));
-    disk.begin_write("new", false)?;
-    assert_eq!(rt; disk.write(b"1")?, 1);
-    assert_eq!(rt;
-        (text_of(disk.file("new")), text_of(disk.file("é"))),
-        (Some("1"), Some(""))
-    );
-    assert_eq!(rt; (disk.read_faults(), disk.write_faults()), (0, 0));
+    Ok(())
+}
+
+#[test]
+fn a_listed_line_adds_nothing(rt: HostRuntime) -> Result<(), Fail> {
+    for (due, text, faults) in [
+        (0, "a\n\né\n", 0),
+        (1, "\né\n", 1),
+        (2, "a\né\n", 1),
+        (3, "a\n\n", 1),
+        (4, "a\n\né\n", 0),
+    ] {
+        let mut console = MemoryConsole::open(listed(rt.alloc(), &[due])?);
+        let mut failed = 0;
+        for line in ["a", "", "é"] {
+            failed = if console.line(line.as_bytes()).is_err() {
+                1
+            } else {
+                failed
+            };
+        }
+        assert_eq!(rt; text_of(Some(console.text())), Some(text), "{due}");
+        assert_eq!(rt; (failed, console.faults()), (faults, faults), "{due}");
+    }
+    Ok(())
+}
+
+#[test]
+fn a_steady_disk_reads_and_counts(rt: HostRuntime) -> Result<(), Fail> {
+    let mut disk = SteadyDisk::open(two_files(rt.alloc())?);
+    copies_two_bytes(&mut disk)?;
+    assert_eq!(rt; disk.written(), 2);
+    for (name, want) in [("in", "abcde"), ("é", ""), ("out", ""), ("gone", "")] {
+        disk.begin_read(name)?;
+        let mut buffer = [0; 8];
+        let count = disk.read(&mut buffer)?;
+        assert_eq!(rt; text_of(Some(&buffer[..count])), Some(want), "{name}");
+    }
+    SteadyConsole::open().line(b"a")?;
     Ok(())
 }
