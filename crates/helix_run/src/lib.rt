@@ -14,11 +14,13 @@ mod profile;
 mod reading;
 mod rows;
 mod status;
+mod steady;
 mod telling;
 mod top;
 mod words;
 
 pub use status::Status;
+pub use steady::run_steady;
 pub use top::run;
 
 #[cfg(test)]
