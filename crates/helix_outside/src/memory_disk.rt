@@ -1,6 +1,7 @@
 //! A disk in memory, some of whose calls fail.
 
-ghost use Rattle.std.specs.Prelude.{◌≡◌, ◌↔◌, [], None, min, length, IsSome, IsErr, IsTrue, OnOk, OnErr, IfOk, unwrap_or, option_copied};
+ghost use Rattle.std.specs.Prelude.{◌≡◌, ◌↔◌, [], None, min, length, drop, IsSome, IsErr, IsTrue};
+ghost use Rattle.std.specs.Prelude.{OnOk, OnErr, IfOk, MatchResult, unwrap_or, option_copied};
 ghost use Rattle.std.specs.FinMap.{get, insert};
 ghost use Rattle.helix_outside.specs.Disk.{BeginsRead, Reads, BeginsWrite, Writes, Finishes};
 ghost use Rattle.helix_outside.specs.DiskInMemory.{state_of, opened, IsCall, IsDue};
@@ -34,7 +35,15 @@ impl Model for MemoryDisk {
 
     ghost coded = { disk_code };
 
-    ghost view = { λ d. record { files = d.files; input = d.input; output = option_map (λ name. name.items) d.output; read_faults = d.read_faults; write_faults = d.write_faults; calls = d.calls; failing = d.failing } };
+    ghost view = { λ d. record {
+      files = d.files;
+      input = d.input;
+      output = option_map (λ name. name.items) d.output;
+      read_faults = d.read_faults;
+      write_faults = d.write_faults;
+      calls = d.calls;
+      failing = d.failing;
+    } };
 }
 
 impl MemoryDisk {
@@ -107,6 +116,7 @@ impl Disk for MemoryDisk {
         ensures call { IsCall self.old result self.new }
         ensures due { IsErr result ↔ IsDue self.old }
         ensures count { IfOk result (λ n. n ≡ min (length buffer.old) (length (unwrap_or self.old.input []))) }
+        ensures others { MatchResult result (λ n. drop n buffer.new ≡ drop n buffer.old) (λ _. buffer.new ≡ buffer.old) }
     {
         if next_call(self.failing.as_slice(), &mut self.calls) {
             return Err(fault(&mut self.read_faults));
