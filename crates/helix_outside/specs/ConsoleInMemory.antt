@@ -1,5 +1,5 @@
 -- What a console in memory is, and what a line does there beside what it does on every console.
-use Rattle.std.specs.Prelude.{◌≡◌, ℕ, ◌+◌, ◌≤◌, Bool, true, List, [], Contains, Result, IsErr, OnErr, refl}
+use Rattle.std.specs.Prelude.{◌≡◌, ℕ, ◌+◌, ◌≤◌, true, List, [], Contains, Result, IsErr, OnErr, refl}
 use Rattle.std.specs.Coded.{Coded, code_by, coded×, coded_ℕ, coded_list}
 use Rattle.helix_outside.specs.Counting.{raised}
 use Rattle.helix_outside.specs.Console.{Screen}

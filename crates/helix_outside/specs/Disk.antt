@@ -1,5 +1,5 @@
 -- What is known of a disk, and what each of its calls does.
-use Rattle.std.specs.Prelude.{◌≡◌, ◌≢◌, ℕ, ◌<◌, ◌≤◌, Bool, false, not, ◌&&◌, List, [], ◌++◌, length, take, Option, Some, None, IsSome, is_some, is_none, unwrap_or, Result, OnOk, OnErr, IfOk, IsErr, IsTrue}
+use Rattle.std.specs.Prelude.{◌≡◌, ℕ, ◌<◌, ◌≤◌, Bool, false, not, ◌&&◌, List, [], ◌++◌, length, take, Option, Some, None, IsSome, is_some, is_none, unwrap_or, Result, OnOk, OnErr, IfOk, IsErr, IsTrue}
 use Rattle.std.specs.FinMap.{get, insert}
 use Rattle.helix_outside.specs.Count.{Counts}
 use Rattle.helix_outside.specs.Files.{FileMap, appended}

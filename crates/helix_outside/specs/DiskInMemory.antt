@@ -1,5 +1,5 @@
 -- What a disk in memory is, and what each of its calls does beside what every disk does.
-use Rattle.std.specs.Prelude.{◌≡◌, ℕ, ◌+◌, ◌≤◌, Bool, true, List, Option, None, Contains, Result, IsErr, refl}
+use Rattle.std.specs.Prelude.{◌≡◌, ℕ, ◌+◌, ◌≤◌, true, List, Option, None, Contains, Result, IsErr, refl}
 use Rattle.std.specs.Coded.{Coded, code_by, coded×, coded_ℕ, coded_list, coded_option}
 use Rattle.std.specs.FinMap as map
 use Rattle.helix_outside.specs.Counting.{raised}

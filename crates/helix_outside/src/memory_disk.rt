@@ -1,6 +1,7 @@
 //! A disk in memory, some of whose calls fail.
 
-ghost use Rattle.std.specs.Prelude.{◌≡◌, ◌↔◌, [], min, length, IsSome, IsErr, IsTrue, OnOk, OnErr, IfOk, unwrap_or, option_copied};
+ghost use Rattle.std.specs.Prelude.{◌≡◌, ◌↔◌, [], None, min, length, drop, IsSome, IsErr, IsTrue};
+ghost use Rattle.std.specs.Prelude.{OnOk, OnErr, IfOk, MatchResult, unwrap_or, option_copied};
 ghost use Rattle.std.specs.FinMap.{get, insert};
 ghost use Rattle.helix_outside.specs.Disk.{BeginsRead, Reads, BeginsWrite, Writes, Finishes};
 ghost use Rattle.helix_outside.specs.DiskInMemory.{state_of, opened, IsCall, IsDue};
@@ -34,7 +35,15 @@ impl Model for MemoryDisk {
 
     ghost coded = { disk_code };
 
-    ghost view = { λ d. record { files = d.files; input = d.input; output = option_map (λ name. name.items) d.output; read_faults = d.read_faults; write_faults = d.write_faults; calls = d.calls; failing = d.failing } };
+    ghost view = { λ d. record {
+      files = d.files;
+      input = d.input;
+      output = option_map (λ name. name.items) d.output;
+      read_faults = d.read_faults;
+      write_faults = d.write_faults;
+      calls = d.calls;
+      failing = d.failing;
+    } };
 }
 
 impl MemoryDisk {
@@ -107,6 +116,7 @@ impl Disk for MemoryDisk {
         ensures call { IsCall self.old result self.new }
         ensures due { IsErr result ↔ IsDue self.old }
         ensures count { IfOk result (λ n. n ≡ min (length buffer.old) (length (unwrap_or self.old.input []))) }
+        ensures others { MatchResult result (λ n. drop n buffer.new ≡ drop n buffer.old) (λ _. buffer.new ≡ buffer.old) }
     {
         if next_call(self.failing.as_slice(), &mut self.calls) {
             return Err(fault(&mut self.read_faults));
@@ -122,8 +132,7 @@ impl Disk for MemoryDisk {
         ensures call { IsCall self.old result self.new }
     {
         let due = next_call(self.failing.as_slice(), &mut self.calls);
-        self.input = None;
-        self.output = None;
+        close(&mut self.input, &mut self.output);
         if !replace && self.files.get(name.as_bytes()).is_some() {
             return Err(Failed);
         }
@@ -143,16 +152,14 @@ impl Disk for MemoryDisk {
         ensures whole { IfOk result (λ n. n ≡ length bytes.now) }
         ensures none { OnErr result (self.new.files ≡ self.old.files) }
     {
-        if next_call(self.failing.as_slice(), &mut self.calls) {
+        let due = next_call(self.failing.as_slice(), &mut self.calls);
+        let Some(name) = &self.output else {
+            unreachable!()
+        };
+        if due || self.files.append(name.as_slice(), bytes).is_err() {
             return Err(fault(&mut self.write_faults));
         }
-        match &self.output {
-            Some(name) => match self.files.append(name.as_slice(), bytes) {
-                Ok(()) => Ok(bytes.len()),
-                Err(_) => Err(fault(&mut self.write_faults)),
-            },
-            None => unreachable!(),
-        }
+        Ok(bytes.len())
     }
 
     fn finish(&mut self) -> Result<(), Failed>
@@ -167,6 +174,15 @@ impl Disk for MemoryDisk {
         }
         Ok(())
     }
+}
+
+/// Closes what is open. The bytes that were written stay.
+fn close(input: &mut Option<Input>, output: &mut Option<Vec<u8>>)
+    ensures input { input.new ≡ None }
+    ensures output { output.new ≡ None }
+{
+    *input = None;
+    *output = None;
 }
 
 /// An input at the first of these bytes, unless the call is due to fail.

@@ -1,6 +1,6 @@
 //! A disk that never fails, and keeps nothing of what is written.
 
-ghost use Rattle.std.specs.Prelude.{◌≡◌, ◌++◌, [], Some, length, min, take, IsSome, IfOk, unwrap_or};
+ghost use Rattle.std.specs.Prelude.{◌≡◌, ◌++◌, [], Some, length, min, take, drop, IsSome, IfOk, unwrap_or};
 ghost use Rattle.helix_outside.specs.Counting.{raised};
 ghost use Rattle.helix_outside.specs.Disk.{BeginsRead, Reads, BeginsWrite, Writes, Finishes};
 ghost use Rattle.helix_outside.specs.SteadyDisk.{steady_state, steady, reading, Passes};
@@ -39,7 +39,12 @@ impl Model for SteadyDisk {
 
     ghost use Rattle.helix_outside.specs.Entries.{files_of, bytes_at};
 
-    ghost view = { λ d. record { files = files_of d.entries.items; input = option_map (λ r. drop r.position (bytes_at d.entries.items r.place)) d.input; writing = d.writing; written = d.written } };
+    ghost view = { λ d. record {
+      files = files_of d.entries.items;
+      input = option_map (λ r. drop r.position (bytes_at d.entries.items r.place)) d.input;
+      writing = d.writing;
+      written = d.written;
+    } };
 }
 
 impl SteadyDisk {
@@ -82,6 +87,7 @@ impl Disk for SteadyDisk {
         ensures passes { Passes self.old result self.new }
         ensures count { IfOk result (λ n. n ≡ min (length buffer.old) (length (unwrap_or self.old.input []))) }
         ensures given { IfOk result (λ n. self.old.input ≡ Some (take n buffer.new ++ unwrap_or self.new.input [])) }
+        ensures others { IfOk result (λ n. drop n buffer.new ≡ drop n buffer.old) }
         ensures written { self.new.written ≡ self.old.written }
     {
         match &mut self.input {

@@ -61,6 +61,13 @@ fn calls_are_listed_in_order(rt: HostRuntime) -> Result<(), Fail> {
     Ok(())
 }
 
+#[test]
+fn a_failure_has_a_text(rt: HostRuntime) -> Result<(), Fail> {
+    let text = format!(in rt.alloc(); "{}", Failed)?;
+    assert_eq!(rt; text.as_str(), "the disk or the console failed");
+    Ok(())
+}
+
 /// Copies two bytes of `in` to `out`, in five calls.
 fn copies_two_bytes<D: Disk>(disk: &mut D) -> Result<(), Failed> {
     disk.begin_read("in")?;

@@ -5,4 +5,4 @@ use Rattle.helix_outside.proofs.entries.bytes_of.Goals as goal
 pub returns-in-Some : goal.returns-in-Some
 returns-in-Some c =
     ap Some c.as_slice.ensures.value
-    ∙ sym (place_get c.args.entries.now c.args.name.now c.in-Some.place c.index-entries-place.result c.in-Some.ensures.found)
+    ∙ sym (place_get _ _ c.in-Some.place c.in-Some.ensures.found c.index-entries-place.result)

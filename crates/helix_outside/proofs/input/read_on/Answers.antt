@@ -1,4 +1,4 @@
-use Rattle.std.proofs.Common.{ℕ, List, ap, sym, ◌∙◌, ◌++◌, ◌-◌, length, take, drop, take-append-drop, drop-drop}
+use Rattle.std.proofs.Common.{ℕ, ap, sym, ◌∙◌, ◌++◌, take, drop, take-append-drop, drop-drop}
 use Rattle.std.proofs.lemmas.List.{take_rest, drop_min}
 use Rattle.helix_outside.proofs.input.read_on.Goals as goal
 
