@@ -3,8 +3,11 @@
 //! a word that isn't text, or no words.
 #![tactic(auto)]
 
+mod counting;
 mod real_console;
 mod real_disk;
+#[cfg(test)]
+mod tests;
 
 use crate::real_console::RealConsole;
 use crate::real_disk::RealDisk;

@@ -2,6 +2,7 @@
 
 ghost use Rattle.helix.specs.Untold.{untold_screen};
 
+use crate::counting::fault;
 use helix_outside::{Console, Failed};
 use std::io;
 use std::io::Write;
@@ -26,10 +27,7 @@ impl<R: Print> Console for RealConsole<'_, R> {
     fn line(&mut self, bytes: &[u8]) -> Result<(), Failed> {
         match write_line(self.rt, bytes) {
             Ok(()) => Ok(()),
-            Err(_) => {
-                self.faults = self.faults.saturating_add(1);
-                Err(Failed)
-            }
+            Err(_) => Err(fault(&mut self.faults)),
         }
     }
 }

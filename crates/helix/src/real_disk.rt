@@ -4,6 +4,7 @@ ghost use Rattle.std.specs.Prelude.{ℕ};
 ghost use Rattle.helix_outside.specs.Disk.{State};
 ghost use Rattle.helix.specs.Untold.{untold};
 
+use crate::counting::fault;
 use helix_outside::{Disk, Failed};
 use std::fs;
 use std::fs::File;
@@ -21,6 +22,12 @@ pub struct RealDisk<'a, R: Files> {
 }
 
 impl<'a, R: Files> RealDisk<'a, R> {
+    /// How many reads failed so far, and how many writes.
+    #[cfg(test)]
+    pub fn faults(&self) -> (u64, u64) {
+        (self.read_faults, self.write_faults)
+    }
+
     /// Nothing is open, and nothing has failed.
     pub fn open(rt: &'a R) -> RealDisk<'a, R> {
         RealDisk {
@@ -43,20 +50,14 @@ impl<R: Files> Disk for RealDisk<'_, R> {
                 self.input = Some(file);
                 Ok(())
             }
-            Err(_) => {
-                self.read_faults = self.read_faults.saturating_add(1);
-                Err(Failed)
-            }
+            Err(_) => Err(fault(&mut self.read_faults)),
         }
     }
 
     fn read(&mut self, buffer: &mut [u8]) -> Result<usize, Failed> {
         match self.input.as_mut().unwrap().read(buffer) {
             Ok(count) => Ok(count),
-            Err(_) => {
-                self.read_faults = self.read_faults.saturating_add(1);
-                Err(Failed)
-            }
+            Err(_) => Err(fault(&mut self.read_faults)),
         }
     }
 
@@ -73,20 +74,14 @@ impl<R: Files> Disk for RealDisk<'_, R> {
                 self.output = Some(file);
                 Ok(())
             }
-            Err(_) => {
-                self.write_faults = self.write_faults.saturating_add(1);
-                Err(Failed)
-            }
+            Err(_) => Err(fault(&mut self.write_faults)),
         }
     }
 
     fn write(&mut self, bytes: &[u8]) -> Result<usize, Failed> {
         match self.output.as_mut().unwrap().write(bytes) {
             Ok(count) if count > 0 || bytes.is_empty() => Ok(count),
-            _ => {
-                self.write_faults = self.write_faults.saturating_add(1);
-                Err(Failed)
-            }
+            _ => Err(fault(&mut self.write_faults)),
         }
     }
 
@@ -95,10 +90,7 @@ impl<R: Files> Disk for RealDisk<'_, R> {
         self.output = None;
         match flushed {
             Ok(()) => Ok(()),
-            Err(_) => {
-                self.write_faults = self.write_faults.saturating_add(1);
-                Err(Failed)
-            }
+            Err(_) => Err(fault(&mut self.write_faults)),
         }
     }
 }
