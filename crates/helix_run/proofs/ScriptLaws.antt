@@ -16,7 +16,7 @@ use Rattle.helix_run.specs.Script.{Script, Ends, HasField, no_order, no_profile,
 use Rattle.helix_run.specs.Profile.{Field, ReadsProfile}
 use Rattle.helix_run.specs.Lines.{done_line}
 use Rattle.helix_run.specs.Outside.{outside, IsQuiet, FollowsScript}
-use Rattle.helix_run.specs.Causes.{ProfileIsRefused}
+use Rattle.helix_run.specs.Causes.{ProfileIsRefused, ProfileIsRead, OutputIsThere}
 use Rattle.helix_run.specs.Outcome.{line_for, status_for, Tells, Generates}
 use Rattle.helix_run.proofs.Known.{Known, known}
 use Rattle.helix_run.proofs.CauseLaws.{write_cause, read_cause}
@@ -93,3 +93,27 @@ module _ (words : List (List ℕ)) (old new : State) (told : IsTrue old.told) (b
       → answer ≢ status.ReadFault → answer ≢ status.WantOfMemory → answer ≡ status.ProfileRefused
   refusal_comes-run outcome answer end tells is read memory =
       tells.status ∙ refusal_for outcome (is_ok tells.result) (known words old new outcome end) is (λ e. read (tells.status ∙ e)) (λ e. memory (tells.status ∙ e))
+
+  -- an accepted profile whose output isn't there is written, unless something fails
+  completes_for : (outcome : Outcome) (result : Result (Unit {0}) Failed) → Known words old outcome new → AddsLine before (line_for outcome) result after
+      → ProfileIsRead words old.files → ¬ OutputIsThere words old → IsQuiet (outside old before) (outside new after)
+      → status_for outcome (is_ok result) ≢ status.WantOfMemory → status_for outcome (is_ok result) ≡ status.Done
+  completes_for Usage result known added is absent quiet memory = absurd (let e : None ≡ Some is.names = sym known.0 ∙ is.has.profile.ordered in cc)
+  completes_for ReadFault result (names, ordered, only, fails) added is absent quiet memory =
+      elim (read_cause words old new names ordered fails) [
+        | inl rose ↦ absurd (quiet.read rose)
+        | inr lacks ↦
+            let same : lacks.names ≡ is.names = same_names words lacks.names is.names lacks.ordered is.has.profile.ordered in
+            absurd (let e : None ≡ Some is.has.bytes = sym lacks.missing ∙ ap (λ n. get old.files n.profile) same ∙ is.has.profile.there in cc)
+      ]
+  completes_for ProfileRefused result (names, ordered, same, why) added is absent quiet memory = absurd (both_ways words old.files is.names is.field is.has (why told))
+  completes_for WantOfMemory result known added is absent quiet memory = absurd (memory refl)
+  completes_for WriteFault result (failed, write) added is absent quiet memory =
+      elim (write_cause words old new failed write) [ inl rose ↦ absurd (quiet.write rose) | inr there ↦ absurd (absent there) ]
+  completes_for (Done count) (Ok x) known added is absent quiet memory = refl
+  completes_for (Done count) (Err e) known added is absent quiet memory = absurd (quiet.console added.faults.failed)
+
+  pub completes-run : (outcome : Outcome) (answer : Status) → Generates words old outcome new → Tells outcome before answer after
+      → ProfileIsRead words old.files → ¬ OutputIsThere words old → IsQuiet (outside old before) (outside new after) → answer ≢ status.WantOfMemory → answer ≡ status.Done
+  completes-run outcome answer end tells is absent quiet memory =
+      tells.status ∙ completes_for outcome tells.result (known words old new outcome end) tells.added is absent quiet (λ e. memory (tells.status ∙ e))

@@ -5,7 +5,7 @@ ghost use Rattle.std.specs.FinMap.{get};
 ghost use Rattle.helix_outside.specs.Count.{Rose};
 ghost use Rattle.helix_run.specs.Words.{order_of, names};
 ghost use Rattle.helix_run.specs.Outside.{outside, IsQuiet, FollowsScript};
-ghost use Rattle.helix_run.specs.Causes.{Cause, ProfileIsRefused, OutputIsThere};
+ghost use Rattle.helix_run.specs.Causes.{Cause, ProfileIsRefused, ProfileIsRead, OutputIsThere};
 ghost use Rattle.helix_run.specs.Left.{Left, HoldsWhole, ShowsLine};
 ghost use Rattle.helix_run.specs.Outcome.{Generates};
 
@@ -37,6 +37,13 @@ pub fn run<D: Disk, C: Console>(
     ensures usage_comes { order_of (map string_bytes words.now) ≡ None → result ≢ Status.WantOfMemory → result ≡ Status.Usage }
     ensures refusal_comes { IsTrue (D.state disk.old).told → ProfileIsRefused (map string_bytes words.now) (D.state disk.old).files
         → result ≢ Status.ReadFault → result ≢ Status.WantOfMemory → result ≡ Status.ProfileRefused }
+
+    // Where all is accepted and nothing fails, the rows are written.
+    ensures completes { let words = map string_bytes words.now in
+        let before = outside (D.state disk.old) (C.screen console.old) in
+        let after = outside (D.state disk.new) (C.screen console.new) in
+        IsTrue before.disk.told → ProfileIsRead words before.disk.files → ¬ OutputIsThere words before.disk
+        → IsQuiet before after → result ≢ Status.WantOfMemory → result ≡ Status.Done }
 
     // What a run leaves, whatever failed. Nothing that was there is overwritten.
     ensures left { IsTrue (D.state disk.old).told

@@ -1,7 +1,7 @@
 use Rattle.std.specs.Prelude.{map, string_bytes}
 use Rattle.helix_run.proofs.CauseLaws.{Cause-run}
 use Rattle.helix_run.proofs.LeftLaws.{Left-run, HoldsWhole-run, kept_if_left}
-use Rattle.helix_run.proofs.ScriptLaws.{FollowsScript-run, refusal_comes-run}
+use Rattle.helix_run.proofs.ScriptLaws.{FollowsScript-run, refusal_comes-run, completes-run}
 use Rattle.helix_run.proofs.top.run.Goals as goal
 
 pub returns-clause-script : goal.returns-clause-script
@@ -17,6 +17,11 @@ returns-clause-cause g c =
 pub returns-clause-refusal_comes : goal.returns-clause-refusal_comes
 returns-clause-refusal_comes g c =
     λ told. refusal_comes-run (map string_bytes c.args.words.now) (g.D.Disk.state c.args.disk.now) (g.D.Disk.state c.generate-outcome.new.disk) told
+    (g.C.Console.screen c.args.console.now) (g.C.Console.screen c.tell.new.console) c.generate-outcome.result c.tell.result c.generate-outcome.ensures c.tell.ensures
+
+pub returns-clause-completes : goal.returns-clause-completes
+returns-clause-completes g c =
+    λ told. completes-run (map string_bytes c.args.words.now) (g.D.Disk.state c.args.disk.now) (g.D.Disk.state c.generate-outcome.new.disk) told
     (g.C.Console.screen c.args.console.now) (g.C.Console.screen c.tell.new.console) c.generate-outcome.result c.tell.result c.generate-outcome.ensures c.tell.ensures
 
 pub returns-clause-left : goal.returns-clause-left
