@@ -1,7 +1,7 @@
 -- Rows compared cell by cell.
 use Rattle.std.proofs.Common.{◌≡◌, ◌≢◌, ℕ, zero, suc, ◌+◌, ◌<◌, ◌≤◌, List, [], ◌∷◌, length, get_or, drop, refl, ap, sym, ◌∙◌, arith, drop-cons, add-one, subst, Ordering}
 use Rattle.std.specs.declared.cmp.Ordering.TheVariants.{Less, Equal, Greater}
-use Rattle.std.proofs.lemmas.List.{drop_all}
+use Rattle.std.proofs.lemmas.List.{drop_all, get_or_default}
 use Rattle.std.specs.Ordering.{ordering_then}
 use Rattle.helix_values.specs.declared.cell.Cell.{Cell}
 use Rattle.helix_values.specs.Class.{AreComparable, AreComparableRows}
@@ -26,6 +26,11 @@ pub comparable_items : (a b : List Cell) (i : ℕ) (x y : Cell) → AreComparabl
 comparable_items a b i x y both within x_is y_is =
     subst (λ v. AreComparable v y) (sym x_is) (subst (λ v. AreComparable (get_or a i x) v) (sym y_is) (comparable_at a b i x y both within))
 
+-- items are compared as the cells at their place
+pub items_cmp : (a b : List Cell) (i : ℕ) (x y d e : Cell) → i < length a → i < length b → x ≡ get_or a i x → y ≡ get_or b i y → cell_cmp x y ≡ cell_cmp (get_or a i d) (get_or b i e)
+items_cmp a b i x y d e in_a in_b x_is y_is =
+    ap (λ v. cell_cmp v y) (x_is ∙ get_or_default a i x d in_a) ∙ ap (λ v. cell_cmp (get_or a i d) v) (y_is ∙ get_or_default b i y e in_b)
+
 -- what is left of two rows is compared by its first cells, and then by what is left after them
 pub row_cmp-drop : (a b : List Cell) (i : ℕ) (x y : Cell) → i < length a → i < length b
     → row_cmp (drop i a) (drop i b) ≡ ordering_then (cell_cmp (get_or a i x) (get_or b i y)) (row_cmp (drop (i + 1) a) (drop (i + 1) b))
@@ -36,22 +41,18 @@ then_differs Less s differ = refl
 then_differs Equal s differ = absurd (differ refl)
 then_differs Greater s differ = refl
 
--- the two cells at a place, as items of the rows
-module _ (a b : List Cell) (i : ℕ) (x y : Cell) (in_a : i < length a) (in_b : i < length b)
-    (x_is : x ≡ get_or a i x) (y_is : y ≡ get_or b i y) (so_far : row_cmp (drop i a) (drop i b) ≡ row_cmp a b) where
-  next : row_cmp a b ≡ ordering_then (cell_cmp x y) (row_cmp (drop (i + 1) a) (drop (i + 1) b))
-  next =
-      sym so_far ∙ row_cmp-drop a b i x y in_a in_b
-      ∙ ap (λ v. ordering_then (cell_cmp v (get_or b i y)) (row_cmp (drop (i + 1) a) (drop (i + 1) b))) (sym x_is)
-      ∙ ap (λ v. ordering_then (cell_cmp x v) (row_cmp (drop (i + 1) a) (drop (i + 1) b))) (sym y_is)
+-- the cells at a place of two rows, where all cells before them are equal
+module _ (a b : List Cell) (i : ℕ) (d : Cell) (in_a : i < length a) (in_b : i < length b) (so_far : row_cmp (drop i a) (drop i b) ≡ row_cmp a b) where
+  next : row_cmp a b ≡ ordering_then (cell_cmp (get_or a i d) (get_or b i d)) (row_cmp (drop (i + 1) a) (drop (i + 1) b))
+  next = sym so_far ∙ row_cmp-drop a b i d d in_a in_b
 
   -- the first cells that differ decide
-  pub differ_here : (r : Ordering) → r ≡ cell_cmp x y → r ≢ Equal → r ≡ row_cmp a b
+  pub differ_here : (r : Ordering) → r ≡ cell_cmp (get_or a i d) (get_or b i d) → r ≢ Equal → r ≡ row_cmp a b
   differ_here r is differ =
       sym (next ∙ ap (λ o. ordering_then o (row_cmp (drop (i + 1) a) (drop (i + 1) b))) (sym is) ∙ then_differs r _ differ)
 
   -- equal cells leave the decision to what comes after
-  pub equal_here : Equal ≡ cell_cmp x y → row_cmp (drop (i + 1) a) (drop (i + 1) b) ≡ row_cmp a b
+  pub equal_here : Equal ≡ cell_cmp (get_or a i d) (get_or b i d) → row_cmp (drop (i + 1) a) (drop (i + 1) b) ≡ row_cmp a b
   equal_here is = sym (next ∙ ap (λ o. ordering_then o (row_cmp (drop (i + 1) a) (drop (i + 1) b))) (sym is))
 
 -- after the last cells nothing differs

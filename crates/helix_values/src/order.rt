@@ -1,6 +1,7 @@
 //! The order of cells and of rows.
 
-ghost use Rattle.std.specs.Prelude.{◌≡◌};
+ghost use Rattle.std.specs.Prelude.{◌≡◌, ◌<◌, length, slice_index_or};
+ghost use Rattle.helix_values.specs.declared.cell.Cell.{Cell};
 ghost use Rattle.helix_values.specs.Class.{AreComparable, AreComparableRows};
 ghost use Rattle.helix_values.specs.Order.{cell_cmp, row_cmp, text_cmp};
 ghost use Rattle.helix_values.specs.View.{cell_of};
@@ -37,11 +38,20 @@ pub fn cmp_cells(a: &[Cell], b: &[Cell]) -> Ordering
     requires { AreComparableRows a.now b.now }
     ensures { result ≡ row_cmp a.now b.now }
 {
-    for (i, cell) in a.iter().enumerate() {
-        match cmp_cell(cell.view(), b[i].view()) {
+    for i in 0..a.len() {
+        match cmp_field(a, b, i) {
             Ordering::Equal => {}
             order => return order,
         }
     }
     Ordering::Equal
+}
+
+/// Compares the cells of one field of two rows.
+fn cmp_field(a: &[Cell], b: &[Cell], i: usize) -> Ordering
+    requires rows { AreComparableRows a.now b.now }
+    requires field { i < length a.now }
+    ensures { (x y : Cell) → result ≡ cell_cmp (slice_index_or a.now i x) (slice_index_or b.now i y) }
+{
+    cmp_cell(a[i].view(), b[i].view())
 }
