@@ -1,0 +1,34 @@
+//! The values of fields: kinds and their universes, cells and rows with their order, check rules of
+//! codes, the calendar, and offsets of moments.
+//!
+//! A number is kept in whole units of 10^-15, a moment in milliseconds from
+//! 0001-01-01T00:00:00.000, a text as its code points. Contracts see both as whole numbers (ℤ).
+//! The definitions stand in `specs/`; the functions here compute them plainly, and later bodies are
+//! compared with them.
+#![tactic(auto)]
+
+mod calendar;
+mod cell;
+mod cells;
+mod codes;
+mod grids;
+mod kind;
+pub mod laws;
+mod offset;
+mod order;
+mod shift;
+mod universe;
+
+pub use calendar::{Date, date_of, day_number, days_of_month};
+pub use cell::{Cell, CellRef};
+pub use cells::{Cells, Row};
+pub use codes::valid;
+pub use grids::is_on_grid;
+pub use kind::{Code, Kind};
+pub use offset::Offset;
+pub use order::{cmp_cell, cmp_cells};
+pub use shift::shifted;
+pub use universe::in_universe;
+
+#[cfg(test)]
+mod tests;

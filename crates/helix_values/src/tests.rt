@@ -1,0 +1,398 @@
+use crate::{
+    Cell, CellRef, Cells, Code, Date, Kind, Offset, Row, cmp_cell, cmp_cells, date_of, day_number,
+    days_of_month, in_universe, is_on_grid, shifted, valid,
+};
+use helix_base::{Alphabet, Text};
+use std::cmp::Ordering;
+use std::process::Abort;
+use std::test::Fail;
+
+#[test]
+fn cells_are_lent_and_copied(rt: HostRuntime) -> Result<(), Fail> {
+    let alloc = rt.alloc();
+    let mut row = Row::new(alloc);
+    let mut set = Cells::new(alloc);
+    row.push(Cell::Null)?;
+    row.push(Cell::Bool(true))?;
+    row.push(Cell::Number(-7))?;
+    set.push(Cell::Moment(86_400_000))?;
+    set.push(Cell::Text(Text::of(alloc, "é")?))?;
+    let row = row.copy(alloc)?;
+    let set = set.copy(alloc)?;
+    let row = row.as_slice();
+    let set = set.as_slice();
+    assert_eq!(rt; row.len(), 3);
+    assert_eq!(rt; set.len(), 2);
+    assert_eq!(rt; row[0].view(), CellRef::Null);
+    assert_eq!(rt; row[1].view(), CellRef::Bool(true));
+    assert_eq!(rt; row[2].view(), CellRef::Number(-7));
+    assert_eq!(rt; set[0].view(), CellRef::Moment(86_400_000));
+    assert_eq!(rt; set[1].view(), CellRef::Text([0xE9].as_slice()));
+    Ok(())
+}
+
+#[test]
+fn cells_are_ordered(rt: HostRuntime) {
+    let texts = [
+        ([].as_slice(), [0x61].as_slice(), Ordering::Less),
+        ([0x62].as_slice(), [0x61, 0x61].as_slice(), Ordering::Less),
+        (
+            [0x61, 0x62].as_slice(),
+            [0x61, 0x63].as_slice(),
+            Ordering::Less,
+        ),
+        (
+            [0x62, 0x61].as_slice(),
+            [0x61, 0x62].as_slice(),
+            Ordering::Greater,
+        ),
+        (
+            [0x61, 0x62].as_slice(),
+            [0x61, 0x62].as_slice(),
+            Ordering::Equal,
+        ),
+    ];
+    for (a, b, want) in texts {
+        assert_eq!(rt;
+            cmp_cell(CellRef::Text(a), CellRef::Text(b)),
+            want,
+            "{a:?} and {b:?}"
+        );
+        assert_eq!(rt; cmp_cell(CellRef::Text(a), CellRef::Null), Ordering::Less);
+    }
+    let numbers = [
+        (-2, -1, Ordering::Less),
+        (-1, 0, Ordering::Less),
+        (7, 7, Ordering::Equal),
+        (8, -9, Ordering::Greater),
+    ];
+    for (a, b, want) in numbers {
+        let (a, b) = (i64::from(a), i64::from(b));
+        assert_eq!(rt;
+            cmp_cell(CellRef::Moment(a), CellRef::Moment(b)),
+            want,
+            "{a} and {b}"
+        );
+        let (a, b) = (i128::from(a), i128::from(b));
+        assert_eq!(rt;
+            cmp_cell(CellRef::Number(a), CellRef::Number(b)),
+            want,
+            "{a} and {b}"
+        );
+    }
+    let (no, yes) = (CellRef::Bool(false), CellRef::Bool(true));
+    assert_eq!(rt; cmp_cell(no, yes), Ordering::Less);
+    assert_eq!(rt; cmp_cell(CellRef::Null, yes), Ordering::Greater);
+    assert_eq!(rt; cmp_cell(CellRef::Null, CellRef::Null), Ordering::Equal);
+}
+
+#[test]
+fn rows_are_ordered_by_the_first_difference(rt: HostRuntime) {
+    let low = [Cell::Number(1), Cell::Number(9)];
+    let high = [Cell::Number(2), Cell::Number(0)];
+    let last = [Cell::Number(2), Cell::Null];
+    assert_eq!(rt; cmp_cells(low.as_slice(), high.as_slice()), Ordering::Less);
+    assert_eq!(rt;
+        cmp_cells(last.as_slice(), high.as_slice()),
+        Ordering::Greater
+    );
+    assert_eq!(rt;
+        cmp_cells(high.as_slice(), high.as_slice()),
+        Ordering::Equal
+    );
+}
+
+// The words of the BAE Systems, Apple, Oracle and Cisco shares, and published examples.
+#[test]
+fn codes_have_check_digits(rt: HostRuntime) -> Result<(), Fail> {
+    let cases = [
+        (Code::Isin, "US0378331005", true),
+        (Code::Isin, "GB0002634946", true),
+        (Code::Isin, "AA0000000006", true),
+        (Code::Isin, "AA0000000014", true),
+        (Code::Isin, "AA0000000022", true),
+        (Code::Isin, "US0378331006", false),
+        (Code::Isin, "AA0000000005", false),
+        (Code::Isin, "us0378331005", false),
+        (Code::Isin, "0S0378331005", false),
+        (Code::Isin, "US037833100", false),
+        (Code::Isin, "US03783310055", false),
+        (Code::Isin, "US03783310A5", false),
+        (Code::Isin, "", false),
+        (Code::Sedol, "0263494", true),
+        (Code::Sedol, "0000000", true),
+        (Code::Sedol, "0000011", true),
+        (Code::Sedol, "0000022", true),
+        (Code::Sedol, "B0YBKJ7", true),
+        (Code::Sedol, "B0YBLH2", true),
+        (Code::Sedol, "7108899", true),
+        (Code::Sedol, "0263495", false),
+        (Code::Sedol, "B0YBKA7", false),
+        (Code::Sedol, "026349Z", false),
+        (Code::Sedol, "026349", false),
+        (Code::Cusip, "037833100", true),
+        (Code::Cusip, "68389X105", true),
+        (Code::Cusip, "17275R102", true),
+        (Code::Cusip, "########4", true),
+        (Code::Cusip, "#######*8", true),
+        (Code::Cusip, "#######07", true),
+        (Code::Cusip, "037833101", false),
+        (Code::Cusip, "########*", false),
+        (Code::Cusip, "68389x105", false),
+        (Code::Cusip, "0378331001", false),
+    ];
+    for (code, string, want) in cases {
+        let text = Text::of(rt.alloc(), string)?;
+        assert_eq!(rt; valid(code, text.codes()), want, "{string}");
+        let kind = Kind::Code(code);
+        assert_eq!(rt;
+            in_universe(kind, CellRef::Text(text.codes())),
+            want,
+            "{string}"
+        );
+    }
+    Ok(())
+}
+
+#[test]
+fn universes_have_edges(rt: HostRuntime) {
+    let ten_to_15 = 1_000_000_000_000_000;
+    let ten_to_35 = 100_000_000_000_000_000_000 * ten_to_15;
+    let last = 315_537_897_599_999;
+    let a_1000 = [0x61; 1000];
+    let a_1001 = [0x61; 1001];
+    let (basic, latin, unicode) = (
+        Kind::Text(Alphabet::Basic),
+        Kind::Text(Alphabet::Latin),
+        Kind::Text(Alphabet::Unicode),
+    );
+    let cases = [
+        (Kind::Boolean, CellRef::Bool(false), true),
+        (Kind::Boolean, CellRef::Number(0), false),
+        (Kind::Boolean, CellRef::Null, false),
+        (Kind::Integer, CellRef::Number(ten_to_35), true),
+        (Kind::Integer, CellRef::Number(-ten_to_35), true),
+        (Kind::Integer, CellRef::Number(ten_to_35 + ten_to_15), false),
+        (
+            Kind::Integer,
+            CellRef::Number(-ten_to_35 - ten_to_15),
+            false,
+        ),
+        (Kind::Integer, CellRef::Number(-ten_to_15), true),
+        (Kind::Integer, CellRef::Number(1), false),
+        (Kind::Integer, CellRef::Number(-1), false),
+        (Kind::Decimal, CellRef::Number(-1), true),
+        (Kind::Decimal, CellRef::Number(ten_to_35), true),
+        (Kind::Decimal, CellRef::Number(ten_to_35 + 1), false),
+        (Kind::Decimal, CellRef::Number(-ten_to_35), true),
+        (Kind::Decimal, CellRef::Number(-ten_to_35 - 1), false),
+        (Kind::DateTime, CellRef::Moment(0), true),
+        (Kind::DateTime, CellRef::Moment(-1), false),
+        (Kind::DateTime, CellRef::Moment(last), true),
+        (Kind::DateTime, CellRef::Moment(last + 1), false),
+        (Kind::Date, CellRef::Moment(0), true),
+        (Kind::Date, CellRef::Moment(1), false),
+        (Kind::Date, CellRef::Moment(-86_400_000), false),
+        (Kind::Date, CellRef::Moment(last + 1 - 86_400_000), true),
+        (Kind::Date, CellRef::Moment(last + 1), false),
+        (Kind::Date, CellRef::Null, false),
+        (basic, CellRef::Text([].as_slice()), true),
+        (basic, CellRef::Text([0x20, 0x7E].as_slice()), true),
+        (basic, CellRef::Text([0x1F].as_slice()), false),
+        (basic, CellRef::Text([0x7F].as_slice()), false),
+        (basic, CellRef::Text([0xA0].as_slice()), false),
+        (basic, CellRef::Text(a_1000.as_slice()), true),
+        (basic, CellRef::Text(a_1001.as_slice()), false),
+        (latin, CellRef::Text([0x7E, 0xA0, 0xFF].as_slice()), true),
+        (latin, CellRef::Text([0x61, 0x9F].as_slice()), false),
+        (latin, CellRef::Text([0x100].as_slice()), false),
+        (
+            unicode,
+            CellRef::Text([0x100, 0xD7FF, 0xE000, 0x10_FFFF].as_slice()),
+            true,
+        ),
+        (unicode, CellRef::Text([0x85].as_slice()), false),
+        (unicode, CellRef::Text([0xD800].as_slice()), false),
+        (unicode, CellRef::Text([0xDFFF].as_slice()), false),
+        (unicode, CellRef::Text([0x11_0000].as_slice()), false),
+    ];
+    for (kind, cell, want) in cases {
+        assert_eq!(rt; in_universe(kind, cell), want, "{cell:?} in {kind:?}");
+    }
+}
+
+/// The number of a date's day.
+fn number(rt: &impl Abort, year: u32, month: u32, day: u32) -> u32 {
+    assert!(rt; 1 <= year && year <= 9999 && 1 <= month && month <= 12);
+    assert!(rt; 1 <= day && day <= days_of_month(year, month));
+    day_number(year, month, day)
+}
+
+/// The first millisecond of a date.
+fn at(rt: &impl Abort, (year, month, day): (u32, u32, u32)) -> i128 {
+    i128::from(number(rt, year, month, day)) * 86_400_000
+}
+
+// The numbers are those of Python's `datetime.date.toordinal`, less one.
+#[test]
+fn days_are_numbered(rt: HostRuntime) {
+    let cases = [
+        (1, 1, 1, 0),
+        (1, 12, 31, 364),
+        (4, 2, 29, 1154),
+        (1900, 2, 28, 693_653),
+        (1900, 3, 1, 693_654),
+        (2000, 2, 29, 730_178),
+        (2024, 2, 29, 738_944),
+        (9999, 12, 31, 3_652_058),
+    ];
+    for (year, month, day, want) in cases {
+        assert_eq!(rt; number(&rt, year, month, day), want, "{year}-{month}-{day}");
+        assert!(rt; want < 3_652_059);
+        assert_eq!(rt; date_of(want), Date { year, month, day }, "{want}");
+    }
+}
+
+#[test]
+fn months_and_years_are_shifted(rt: HostRuntime) {
+    let months = [
+        ((2024, 1, 31), 1, (2024, 2, 29)),
+        ((2024, 1, 30), 1, (2024, 2, 29)),
+        ((2024, 1, 29), 1, (2024, 2, 29)),
+        ((2023, 1, 29), 1, (2023, 2, 28)),
+        ((2024, 2, 29), 1, (2024, 3, 29)),
+        ((2024, 3, 31), -1, (2024, 2, 29)),
+        ((2024, 1, 15), -1, (2023, 12, 15)),
+        ((2024, 1, 15), 0, (2024, 1, 15)),
+        ((1, 1, 1), 119_987, (9999, 12, 1)),
+    ];
+    for (from, n, to) in months {
+        let value = at(&rt, from);
+        assert!(rt; 0 <= value && value <= 315_537_897_599_999);
+        assert_eq!(rt;
+            shifted(Offset::Months(n), value),
+            at(&rt, to),
+            "{from:?} and {n}"
+        );
+    }
+    // A shift by months begins at the day, whatever the time is.
+    let noon = 738_915 * 86_400_000 + 43_200_000;
+    assert_eq!(rt; shifted(Offset::Months(1), noon), at(&rt, (2024, 2, 29)));
+    assert_eq!(rt;
+        shifted(Offset::WorkingDays(0), noon),
+        at(&rt, (2024, 1, 31))
+    );
+    assert_eq!(rt;
+        shifted(Offset::Plain(-43_200_000), noon),
+        at(&rt, (2024, 1, 31))
+    );
+    let years = [
+        ((2024, 2, 29), 1, (2025, 2, 28)),
+        ((2024, 2, 29), -4, (2020, 2, 29)),
+    ];
+    for (from, n, to) in years {
+        let value = at(&rt, from);
+        assert!(rt; 0 <= value && value <= 315_537_897_599_999);
+        assert_eq!(rt;
+            shifted(Offset::Years(n), value),
+            at(&rt, to),
+            "{from:?} and {n}"
+        );
+    }
+}
+
+#[test]
+fn working_days_are_shifted(rt: HostRuntime) {
+    let cases = [
+        ((2024, 1, 5), 1, (2024, 1, 8)),
+        ((2024, 1, 6), 1, (2024, 1, 8)),
+        ((2024, 1, 7), 1, (2024, 1, 8)),
+        ((2024, 1, 8), 1, (2024, 1, 9)),
+        ((2024, 1, 5), 6, (2024, 1, 15)),
+        ((2024, 1, 8), -1, (2024, 1, 5)),
+        ((2024, 1, 7), -1, (2024, 1, 5)),
+        ((2024, 1, 7), 0, (2024, 1, 7)),
+        ((2024, 1, 15), -6, (2024, 1, 5)),
+        ((1, 1, 2), -1, (1, 1, 1)),
+        ((9999, 12, 30), 1, (9999, 12, 31)),
+    ];
+    for (from, n, to) in cases {
+        let value = at(&rt, from);
+        assert!(rt; 0 <= value && value <= 315_537_897_599_999);
+        assert_eq!(rt;
+            shifted(Offset::WorkingDays(n), value),
+            at(&rt, to),
+            "{from:?} and {n}"
+        );
+    }
+}
+
+#[test]
+fn shifts_leave_the_calendar(rt: HostRuntime) {
+    let last = 3_652_058 * 86_400_000;
+    let after_all = 315_537_897_600_000;
+    for n in [1, 9_999, i64::MAX] {
+        assert_eq!(rt; shifted(Offset::Years(n), last), after_all, "{n} years");
+        assert_eq!(rt; shifted(Offset::Months(n), last), after_all, "{n} months");
+        assert_eq!(rt;
+            shifted(Offset::WorkingDays(n), last),
+            after_all,
+            "{n} days"
+        );
+    }
+    for n in [-1, -9_999, i64::MIN] {
+        assert_eq!(rt; shifted(Offset::Years(n), 0), -1, "{n} years");
+        assert_eq!(rt; shifted(Offset::Months(n), 0), -1, "{n} months");
+        assert_eq!(rt; shifted(Offset::WorkingDays(n), 0), -1, "{n} days");
+    }
+    assert_eq!(rt; shifted(Offset::Plain(-5), 3), -2);
+}
+
+#[test]
+fn grids_are_ladders(rt: HostRuntime) {
+    let numbers = [
+        (0, 1, true),
+        (1, 1, false),
+        (14, 100_000_000_000_000, true),
+        (15, 100_000_000_000_000, false),
+        (15, -3_000_000_000_000_000, true),
+        (15, 0, true),
+    ];
+    for (level, units, want) in numbers {
+        assert!(rt; level < 16);
+        assert_eq!(rt;
+            is_on_grid(level, CellRef::Number(units)),
+            want,
+            "{units} on {level}"
+        );
+    }
+    // 2024-01-01, 2024-02-01, 2024-02-02 and 9999-12-01 are the days 738885, 738916, 738917 and 3652028.
+    let day = 86_400_000;
+    let moments = [
+        (0, 1, true),
+        (1, 1_500, false),
+        (1, 2_000, true),
+        (2, 120_000, true),
+        (3, 120_000, false),
+        (3, 7_200_000, true),
+        (4, 7_200_000, false),
+        (4, 738_917 * day, true),
+        (5, 738_917 * day, false),
+        (5, 738_916 * day, true),
+        (5, 738_916 * day + 1, false),
+        (6, 738_916 * day, false),
+        (6, 738_885 * day, true),
+        (5, 3_652_028 * day, true),
+        (5, 3_652_059 * day, false),
+        (6, 0, true),
+        (6, -day, false),
+    ];
+    for (level, millis, want) in moments {
+        assert!(rt; level < 16);
+        assert_eq!(rt;
+            is_on_grid(level, CellRef::Moment(millis)),
+            want,
+            "{millis} on {level}"
+        );
+    }
+}
