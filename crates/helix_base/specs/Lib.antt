@@ -1,1 +1,4 @@
 pub mod Alphabet
+pub mod Ranges
+pub mod Steps
+pub mod Weights

@@ -9,13 +9,19 @@ mod alphabet;
 mod bytes;
 mod memory;
 mod numbers;
+mod ranges;
+mod steps;
 mod text;
+mod weights;
 
 pub use alphabet::Alphabet;
 pub use bytes::Bytes;
 pub use memory::Memory;
 pub use numbers::Numbers32;
+pub use ranges::RangeTable;
+pub use steps::{Ledger, Quiet, Steps, Unit};
 pub use text::Text;
+pub use weights::WeightTable;
 
 #[cfg(test)]
 mod tests;

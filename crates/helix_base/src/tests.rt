@@ -1,4 +1,4 @@
-use crate::{Bytes, Numbers32, Text};
+use crate::{Alphabet, Bytes, Numbers32, Quiet, RangeTable, Steps, Text, Unit, WeightTable};
 use std::test::Fail;
 
 #[test]
@@ -33,4 +33,77 @@ fn lists_grow_and_are_copied(rt: HostRuntime) -> Result<(), Fail> {
     numbers.push(u32::MAX)?;
     assert_eq!(rt; numbers.copy(rt.alloc())?.as_slice(), [u32::MAX].as_slice());
     Ok(())
+}
+
+#[test]
+fn tables_are_in_order_or_refused(rt: HostRuntime) -> Result<(), Fail> {
+    let refused = [
+        [(2, 1), (3, 4)],
+        [(1, 2), (4, 3)],
+        [(1, 3), (3, 4)],
+        [(3, 4), (1, 2)],
+    ];
+    for ranges in refused {
+        assert!(rt; RangeTable::new(ranges).is_none(), "{ranges:?}");
+    }
+    assert!(rt; RangeTable::new([]).is_some());
+    let table = RangeTable::new([(3, 3), (4, 6), (9, u32::MAX)]).ok_or("in order")?;
+    let cases = [
+        (0, false, 3),
+        (3, true, 3),
+        (4, true, 4),
+        (6, true, 6),
+        (7, false, 9),
+        (9, true, 9),
+        (u32::MAX, true, u32::MAX),
+    ];
+    for (code, has, next) in cases {
+        assert_eq!(rt; table.has(code), has, "{code}");
+        assert_eq!(rt; table.next_at_or_after(code), Some(next), "{code}");
+    }
+    let low = RangeTable::new([(3, 5)]).ok_or("in order")?;
+    assert_eq!(rt; low.next_at_or_after(6), None);
+    Ok(())
+}
+
+#[test]
+fn alphabets_have_their_characters(rt: HostRuntime) {
+    let cases = [
+        (Alphabet::Basic, 0x1F, Some(0x20)),
+        (Alphabet::Basic, 0x7E, Some(0x7E)),
+        (Alphabet::Basic, 0x7F, None),
+        (Alphabet::Latin, 0x7F, Some(0xA0)),
+        (Alphabet::Latin, 0x100, None),
+        (Alphabet::Unicode, 0x9F, Some(0xA0)),
+        (Alphabet::Unicode, 0xD800, Some(0xE000)),
+        (Alphabet::Unicode, 0x10_FFFF, Some(0x10_FFFF)),
+        (Alphabet::Unicode, 0x11_0000, None),
+    ];
+    for (alphabet, code, next) in cases {
+        assert_eq!(rt;
+            alphabet.next_at_or_after(code),
+            next,
+            "{alphabet:?} {code}"
+        );
+        assert_eq!(rt;
+            alphabet.has(code),
+            next == Some(code),
+            "{alphabet:?} {code}"
+        );
+    }
+}
+
+#[test]
+fn sums_and_steps_are_counted(rt: HostRuntime) {
+    // The weights of a SEDOL, and the values of 0263494.
+    let table = WeightTable::new([1, 3, 1, 7, 3, 9, 1]);
+    assert_eq!(rt; table.sum(&[0, 2, 6, 3, 4, 9, 4]), 130);
+    let mut steps = Steps::new(Quiet);
+    steps.tick(Unit::Move);
+    steps.tick(Unit::Move);
+    steps.tick(Unit::Domain);
+    assert_eq!(rt;
+        (steps.count(Unit::Domain), steps.count(Unit::Move)),
+        (1, 2)
+    );
 }
