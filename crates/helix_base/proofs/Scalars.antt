@@ -4,15 +4,7 @@ use Rattle.std.specs.Char.{IsScalar, encode_utf8}
 use Rattle.std.specs.Str.{all_scalars, encode_utf8_all}
 use Rattle.std.proofs.lemmas.Str.{encodes-append, scalars-chars}
 use Rattle.std.proofs.lemmas.List.{take_more, append-nil}
-
--- the two sides of an `&&` that is true
-both : (a b : Bool) → (a && b) ≡ true → (a ≡ true) × (b ≡ true)
-both true b e = (refl, e)
-both false b e = cc
-
-joined : (a b : Bool) → a ≡ true → b ≡ true → (a && b) ≡ true
-joined true b e f = f
-joined false b e f = cc
+use Rattle.helix_base.proofs.Booleans.{both, joined}
 
 -- a scalar value behind scalar values
 pub all_scalars-push : (codes : List ℕ) (code : ℕ) → all_scalars codes ≡ true → IsScalar code → all_scalars (codes ++ code ∷ []) ≡ true

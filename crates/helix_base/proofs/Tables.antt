@@ -3,23 +3,8 @@ use Rattle.std.proofs.Common.{◌≡◌, ◌⊎◌, inl, inr, ℕ, ◌<◌, ◌�
 use Rattle.std.proofs.lemmas.Bool.{leb-true, le-leb}
 use Rattle.std.specs.Prelude.{IsTrue}
 use Rattle.helix_base.specs.Alphabet.{is_in_range}
+use Rattle.helix_base.proofs.Booleans.{both, joined, either, first_of_two}
 use Rattle.helix_base.specs.Ranges.{are_in_order, is_listed, IsLeastFrom}
-
-both : (a b : Bool) → (a && b) ≡ true → (a ≡ true) × (b ≡ true)
-both true b e = (refl, e)
-both false b e = absurd (cc)
-
-joined : (a b : Bool) → a ≡ true → b ≡ true → (a && b) ≡ true
-joined true b e f = f
-joined false b e f = e
-
-either : (a b : Bool) → (a || b) ≡ true → (a ≡ true) ⊎ (b ≡ true)
-either true b e = inl refl
-either false b e = inr e
-
-first_of_two : (a b : Bool) → a ≡ true → (a || b) ≡ true
-first_of_two true b e = refl
-first_of_two false b e = absurd (cc)
 
 in_range : (code : ℕ) (range : ℕ × ℕ) → is_in_range code range ≡ true → (range.0 ≤ code) × (code ≤ range.1)
 in_range code range e =

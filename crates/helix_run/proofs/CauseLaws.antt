@@ -14,11 +14,8 @@ use Rattle.helix_run.specs.Reading.{FailsToRead}
 use Rattle.helix_run.specs.Outside.{outside}
 use Rattle.helix_run.specs.Causes.{Cause, LacksProfile, OutputIsThere, ProfileIsRead}
 use Rattle.helix_run.specs.Outcome.{line_for, status_for, Tells, Generates}
+use Rattle.helix_run.proofs.Booleans.{both}
 use Rattle.helix_run.proofs.Known.{Known, KnownWrite, known}
-
-both : (a b : Bool) → (a && b) ≡ true → (a ≡ true) × (b ≡ true)
-both true b e = (refl, e)
-both false b e = absurd (cc)
 
 none_if : {X : Type 0} (o : Option X) → is_none o ≡ true → o ≡ None
 none_if None e = refl

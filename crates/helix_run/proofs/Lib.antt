@@ -1,3 +1,4 @@
+pub mod Booleans
 pub mod Putting
 pub mod WholeFile
 pub mod WholeInput

@@ -5,7 +5,7 @@ use Rattle.std.specs.Prelude.{IsTrue, if◌then◌else◌}
 use Rattle.std.specs.List.{list_all}
 use Rattle.helix_run.specs.Profile.{is_name_character, IsName, quoted_before}
 use Rattle.helix_run.specs.Name.{name_length}
-use Rattle.helix_run.proofs.Patterns.{both, joined}
+use Rattle.helix_run.proofs.Booleans.{both, joined}
 
 -- the characters at the front are a name's
 name_length_all : (bytes : List ℕ) → IsTrue (list_all is_name_character (take (name_length bytes) bytes))

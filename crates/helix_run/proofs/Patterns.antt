@@ -4,15 +4,8 @@ use Rattle.std.specs.Prelude.{Some, None, IsTrue, ◌==◌, if◌then◌else◌,
 use Rattle.std.specs.List.{list_all}
 use Rattle.std.proofs.lemmas.Bool.{eqb-true}
 use Rattle.helix_run.specs.Profile.{Follows, is_blank}
+use Rattle.helix_run.proofs.Booleans.{both, joined}
 use Rattle.helix_run.specs.Pattern.{after, after_blanks, begins_settled, is_settled}
-
-pub both : (a b : Bool) → (a && b) ≡ true → (a ≡ true) × (b ≡ true)
-both true b e = (refl, e)
-both false b e = absurd (cc)
-
-pub joined : (a b : Bool) → a ≡ true → b ≡ true → (a && b) ≡ true
-joined true b e f = f
-joined false b e f = e
 
 -- the blanks at the front, and what is behind them
 front_blanks : (bytes : List ℕ) → (blanks : List ℕ) × IsTrue (list_all is_blank blanks) × (bytes ≡ blanks ++ after_blanks bytes)
