@@ -7,3 +7,4 @@ pub mod GregorianYears
 pub mod CivilDates
 pub mod WorkingDays
 pub mod Midnights
+pub mod ClassLaws

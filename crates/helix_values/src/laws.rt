@@ -1,9 +1,13 @@
 //! Laws over the definitions alone: each is the contract of a function that does nothing.
 
-ghost use Rattle.std.specs.Prelude.{List};
+ghost use Rattle.std.specs.Prelude.{ℕ, ◌≡◌, ◌<◌, Some, List};
 ghost use Rattle.std.specs.Cmp.{IsTotalOrder};
 ghost use Rattle.std.specs.FinMap.{IsAntisymmetric};
 ghost use Rattle.helix_values.specs.declared.cell.Cell.{Cell};
+ghost use Rattle.helix_values.specs.declared.kind.Kind.{Kind};
+ghost use Rattle.helix_values.specs.Calendar.{IsDate, day_number, year_of, month_of, day_of_month, year_start, days_of_calendar};
+ghost use Rattle.helix_values.specs.Class.{Class, class_of, class_of_kind, IsNullOr, AreComparable};
+ghost use Rattle.helix_values.specs.Universe.{InUniverse};
 ghost use Rattle.helix_values.specs.Order.{cell_cmp, row_cmp, CellLess, RowLess};
 
 /// Of two cells one stands before the other, or they are equal.
@@ -20,4 +24,19 @@ pub fn rows_have_a_total_order()
     ensures antisymmetric { IsAntisymmetric row_cmp }
     ensures irreflexive { (a : List Cell) → ¬ RowLess a a }
     ensures transitive { (a b c : List Cell) → RowLess a b → RowLess b c → RowLess a c }
+{}
+
+/// The values of a kind are of the kind's class, and those of one class can be compared.
+pub fn universes_lie_in_classes()
+    ensures class { (k : Kind) (c : Cell) → InUniverse k c → class_of c ≡ Some (class_of_kind k) }
+    ensures comparable { (class : Class) (a b : Cell) → IsNullOr class a → IsNullOr class b → AreComparable a b }
+{}
+
+/// A date is found again from the number of its day, which is one of the calendar's.
+pub fn dates_have_day_numbers()
+    ensures year { (y m d : ℕ) → IsDate y m d → year_of (day_number y m d) ≡ y }
+    ensures month { (y m d : ℕ) → IsDate y m d → month_of (day_number y m d) ≡ m }
+    ensures day { (y m d : ℕ) → IsDate y m d → day_of_month (day_number y m d) ≡ d }
+    ensures within { (y m d : ℕ) → IsDate y m d → day_number y m d < days_of_calendar }
+    ensures end { year_start 10000 ≡ days_of_calendar }
 {}
