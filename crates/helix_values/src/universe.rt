@@ -1,7 +1,6 @@
 //! The universe of a kind.
 
 ghost use Rattle.std.specs.Prelude.{◌↔◌, ◌^◌, IsTrue};
-ghost use Rattle.helix_base.specs.Alphabet.{IsCharacterOf};
 ghost use Rattle.helix_values.specs.Calendar.{IsMoment, millis_of_day};
 ghost use Rattle.helix_values.specs.Grids.{IsMultipleOf};
 ghost use Rattle.helix_values.specs.Universe.{InUniverse, IsNumber};
@@ -11,7 +10,6 @@ use crate::calendar::{LAST_MOMENT, MILLIS_OF_DAY};
 use crate::cell::CellRef;
 use crate::codes::valid;
 use crate::kind::Kind;
-use helix_base::Alphabet;
 
 /// One, in units of 10^-15.
 const ONE: i128 = 1_000_000_000_000_000;
@@ -31,7 +29,7 @@ pub fn in_universe(kind: Kind, cell: CellRef<'_>) -> bool
         (Kind::Integer, CellRef::Number(units)) => is_number(units) && is_whole(units),
         (Kind::Decimal, CellRef::Number(units)) => is_number(units),
         (Kind::Text(alphabet), CellRef::Text(codes)) => {
-            codes.len() <= LONGEST && codes.iter().all(|code| is_character(alphabet, *code))
+            codes.len() <= LONGEST && codes.iter().all(|code| alphabet.has(*code))
         }
         (Kind::Date, CellRef::Moment(at)) => is_moment(at) && is_midnight(at),
         (Kind::DateTime, CellRef::Moment(at)) => is_moment(at),
@@ -62,14 +60,4 @@ fn is_midnight(at: i64) -> bool
     ensures { IsTrue result ↔ IsMultipleOf millis_of_day at }
 {
     at % MILLIS_OF_DAY == 0
-}
-
-fn is_character(alphabet: Alphabet, code: u32) -> bool
-    ensures { IsTrue result ↔ IsCharacterOf alphabet code }
-{
-    match alphabet {
-        Alphabet::Basic => matches!(code, 0x20..=0x7E),
-        Alphabet::Latin => matches!(code, 0x20..=0x7E | 0xA0..=0xFF),
-        Alphabet::Unicode => { matches!(code, 0x20..=0x7E | 0xA0..=0xD7FF | 0xE000..=0x10_FFFF) }
-    }
 }
