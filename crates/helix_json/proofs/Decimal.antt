@@ -58,7 +58,7 @@ power_rises j k le = let split : k ≡ j + (k - j) = omega arith in
 pub product_rises : (n j k : ℕ) → j ≤ k → n * 10 ^ j ≤ n * 10 ^ k
 product_rises n j k le = mul-le-mul_left n (power_rises j k le)
 
-le_or_lt : (a b : ℕ) → (a ≤ b) ⊎ (b < a)
+pub le_or_lt : (a b : ℕ) → (a ≤ b) ⊎ (b < a)
 le_or_lt zero b = inl (omega arith)
 le_or_lt (suc a) zero = inr (omega arith)
 le_or_lt (suc a) (suc b) = elim (le_or_lt a b) [ inl le ↦ inl (omega arith) | inr gt ↦ inr (omega arith) ]

@@ -2,3 +2,8 @@ pub mod Decimal
 pub mod Options
 pub mod Parts
 pub mod NumberGrammar
+pub mod Machine
+pub mod Tests
+pub mod Strings
+pub mod Lexing
+pub mod OneValue

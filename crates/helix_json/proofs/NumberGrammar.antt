@@ -10,7 +10,7 @@ use Rattle.helix_json.specs.NumberSteps.{kind_of, number_step, number_ends, if_s
 use Rattle.std.proofs.lemmas.Bool.{eqb-true, eq-eqb, leb-true, leb-false}
 
 -- what a kind says of a character
-abbrev Means : NumberCharacter → ℕ → Type 0
+abbrev pub Means : NumberCharacter → ℕ → Type 0
 Means kind.Zero c = c ≡ 48
 Means kind.Digit c = (49 ≤ c) × (c ≤ 57)
 Means kind.Plus c = c ≡ 43
@@ -31,7 +31,7 @@ both : (a b : Bool) → (a && b) ≡ true → (a ≡ true) × (b ≡ true)
 both true b e = (refl, e)
 both false b e = cc
 
-means : (c : ℕ) → Means (kind_of c) c
+pub means : (c : ℕ) → Means (kind_of c) c
 means c =
     choose (λ k. Means k c) (c == 48) _ _ (λ e. eqb-true _ _ e) (λ _.
     choose (λ k. Means k c) (nat_le 49 c && nat_le c 57) _ _ (λ e. let h : (nat_le 49 c ≡ true) × (nat_le c 57 ≡ true) = both _ _ e in (leb-true _ _ h.0, leb-true _ _ h.1)) (λ _.

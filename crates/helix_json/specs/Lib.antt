@@ -4,3 +4,6 @@ pub mod Pieces
 pub mod Text
 pub mod Broken
 pub mod NumberSteps
+pub mod Machine
+pub mod StringSteps
+pub mod Lexer

@@ -2,15 +2,19 @@
 //! place.
 #![tactic(auto)]
 
+mod class;
 mod digits;
 mod fault;
+mod laws;
 mod number;
+mod string;
 mod token;
 mod units;
 mod value;
 
 pub use digits::is_number;
 pub use fault::JsonFault;
+pub use laws::one_value;
 pub use token::Token;
 pub use units::number_units;
 pub use value::{Items, Json, Member, Members};
