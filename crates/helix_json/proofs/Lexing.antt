@@ -100,7 +100,7 @@ prepend_twice : (t : Token) (ts : List Token) (o : Option (List Token)) → prep
 prepend_twice t ts None = refl
 prepend_twice t ts (Some us) = refl
 
-with_front : (t : Token) (e : Emission) (f : Lex → Option (List Token)) → on_emission (with_token t e) f ≡ prepend (t ∷ []) (on_emission e f)
+pub with_front : (t : Token) (e : Emission) (f : Lex → Option (List Token)) → on_emission (with_token t e) f ≡ prepend (t ∷ []) (on_emission e f)
 with_front t None f = refl
 with_front t (Some (ts, l)) f = prepend_twice t ts (f l)
 
@@ -113,7 +113,7 @@ number_on c text r sofar n None is e ih = cc
 number_on c text r sofar n (Some next) is e ih = ap (λ o. on_emission (number_move sofar n o c) (λ l. lex (text ++ r) l)) is
     ∙ (prepend_nil _ ∙ (ih next e ∙ ap (λ l. prepend (token.Number l ∷ []) (lex r between)) (append_assoc sofar (c ∷ []) text)))
 
-number_read : (text r sofar : List ℕ) (n : NumberState) → accepts n text ≡ true → EndsNumber r
+pub number_read : (text r sofar : List ℕ) (n : NumberState) → accepts n text ≡ true → EndsNumber r
     → lex (text ++ r) (in_number sofar n) ≡ prepend (token.Number (sofar ++ text) ∷ []) (lex r between)
 unfolding lex accepts
 number_read [] [] sofar n e stops = ap (end_tokens sofar) e ∙ ap (λ l. Some (token.Number l ∷ [])) (sym (append-nil sofar))
@@ -197,7 +197,7 @@ mark_follows m t ts text e (w, piece, rest, is, blanks, spells, others) =
     subst EndsNumber (sym is) (blanks_end_before w (piece ++ rest) blanks
     (subst (λ p. EndsNumber (p ++ rest)) (sym one) (mark_kind m)))
 
-after_number : (x : Json) (fs : List Frame) (t : Token) (s : Reading) → step (after x fs) t ≡ Some s → IsMark t
+pub after_number : (x : Json) (fs : List Frame) (t : Token) (s : Reading) → step (after x fs) t ≡ Some s → IsMark t
 after_number x [] t s e = cc
 after_number x (in_list xs ∷ fs) token.Comma s e = (mark.Comma, refl)
 after_number x (in_list xs ∷ fs) token.CloseList s e = (mark.CloseList, refl)
@@ -209,7 +209,7 @@ after_number x (in_object ms k ∷ fs) _ s e = cc
 led_to : (a b : Reading) → Some a ≡ Some b → a ≡ b
 led_to a b e = cc
 
-number_leads : (r : Reading) (n : List ℕ) (s : Reading) → step r (token.Number n) ≡ Some s → (x : Json) × (fs : List Frame) × (after x fs ≡ s)
+pub number_leads : (r : Reading) (n : List ℕ) (s : Reading) → step r (token.Number n) ≡ Some s → (x : Json) × (fs : List Frame) × (after x fs ≡ s)
 number_leads (value fs) n s e = (json.Number n, fs, led_to (after (json.Number n) fs) s e)
 number_leads (first_item fs) n s e = (json.Number n, in_list [] ∷ fs, led_to (after (json.Number n) (in_list [] ∷ fs)) s e)
 number_leads (first_key fs) n s e = cc

@@ -7,3 +7,6 @@ pub mod Tests
 pub mod Strings
 pub mod Lexing
 pub mod OneValue
+pub mod StringBack
+pub mod Sound
+pub mod Viable

@@ -7,3 +7,4 @@ pub mod NumberSteps
 pub mod Machine
 pub mod StringSteps
 pub mod Lexer
+pub mod Scan
