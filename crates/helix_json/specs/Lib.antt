@@ -8,3 +8,4 @@ pub mod Machine
 pub mod StringSteps
 pub mod Lexer
 pub mod Scan
+pub mod Need

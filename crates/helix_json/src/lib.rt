@@ -6,6 +6,7 @@ mod class;
 mod digits;
 mod fault;
 mod laws;
+mod need;
 mod number;
 mod string;
 mod token;
