@@ -1,10 +1,10 @@
 -- Digits, and numbers times powers of ten.
 use Rattle.std.proofs.Common.{◌≡◌, ◌≢◌, ℕ, ◌+◌, ◌*◌, ◌-◌, ◌^◌, ◌%◌, ◌<◌, ◌≤◌, zero, suc, List, [], ◌∷◌, ◌++◌, length, get_or, take, drop, mul_assoc, add-one, ◌⊎◌, ◌/◌, inl, inr, subst, Bool, true, false, ◌↔◌, refl, sym, ◌∙◌, ap, arith}
-use Rattle.std.proofs.lemmas.List.{take_more, drop_more, take-append-drop}
+use Rattle.std.proofs.lemmas.List.{take_more, take-append-drop}
 use Rattle.std.proofs.lemmas.Nat.{pow-add}
 use Rattle.std.proofs.Math.Nat.{pow-suc, mul-div_cancel, mul-le-mul_left}
-use Rattle.helix_json.specs.Numbers.{IsDigit, AreDigits, digits_from, digits_value}
-use Rattle.helix_json.specs.Pieces.{NoDigit, IsReduced, Unreachable, AreUnits}
+use Rattle.helix_json.specs.Numbers.{IsDigit, AreDigits, digits_from}
+use Rattle.helix_json.specs.Pieces.{IsReduced, Unreachable, AreUnits}
 
 -- one digit more
 pub digits_push : (cs : List ℕ) (c : ℕ) → AreDigits cs → IsDigit c → AreDigits (cs ++ c ∷ [])

@@ -3,7 +3,7 @@ pub mod Options
 pub mod Parts
 pub mod NumberGrammar
 pub mod Machine
-pub mod Tests
+pub mod Decides
 pub mod Strings
 pub mod Lexing
 pub mod OneValue

@@ -1,11 +1,11 @@
 -- Numbers read one character after the other are the numbers of the grammar.
-use Rattle.std.proofs.Common.{◌≡◌, ◌≢◌, ℕ, ◌+◌, ◌≤◌, ◌<◌, ◌⊎◌, ◌↔◌, inl, inr, zero, suc, List, [], ◌∷◌, ◌++◌, Bool, true, false, Option, Some, None, IsTrue, ◌==◌, nat_le, ◌&&◌, ◌||◌, cond, length, drop, get_or, refl, sym, ◌∙◌, ap, subst, arith}
+use Rattle.std.proofs.Common.{◌≡◌, ◌≢◌, ℕ, ◌+◌, ◌≤◌, ◌<◌, ◌⊎◌, ◌↔◌, inl, inr, List, [], ◌∷◌, ◌++◌, Bool, true, false, Some, None, IsTrue, ◌==◌, nat_le, ◌&&◌, ◌||◌, cond, length, drop, get_or, refl, sym, ◌∙◌, ap, subst, arith}
 use Rattle.std.proofs.lemmas.List.{at_drop_more, at_drop_all}
 use Rattle.helix_json.specs.declared.digits.NumberState.{NumberState}
 use Rattle.helix_json.specs.declared.digits.NumberState.TheVariants as state
 use Rattle.helix_json.specs.declared.digits.NumberCharacter.{NumberCharacter}
 use Rattle.helix_json.specs.declared.digits.NumberCharacter.TheVariants as kind
-use Rattle.helix_json.specs.Numbers.{IsDigit, AreDigits, Parts, Exponent, no_exponent, power, Sign, plus, minus, no_sign, IsWhole, IsExponent, AreParts, SpellsNumber, number_text, fraction_text, exponent_text, sign_text, minus_text, IsNumber}
+use Rattle.helix_json.specs.Numbers.{IsDigit, AreDigits, Exponent, no_exponent, power, Sign, plus, minus, no_sign, IsWhole, IsExponent, fraction_text, exponent_text, sign_text, minus_text, IsNumber}
 use Rattle.helix_json.specs.NumberSteps.{kind_of, number_step, number_ends, if_some, accepts}
 use Rattle.std.proofs.lemmas.Bool.{eqb-true, eq-eqb, leb-true, leb-false}
 

@@ -1,6 +1,6 @@
 -- The parts of a number are found one behind the other.
-use Rattle.std.proofs.Common.{◌≡◌, ◌≢◌, ℕ, ◌+◌, ◌*◌, ◌^◌, ◌≤◌, ◌⊎◌, ◌↔◌, inl, inr, zero, suc, List, [], ◌∷◌, ◌++◌, length, Bool, true, false, ℤ, nat_abs, refl, sym, ◌∙◌, ap, subst, arith}
-use Rattle.helix_json.specs.Numbers.{IsDigit, AreDigits, Parts, Exponent, no_exponent, power, Sign, plus, minus, no_sign, IsWhole, IsExponent, AreParts, SpellsNumber, number_text, fraction_text, exponent_text, sign_text, minus_text, raised, lowered, digits_value, HasUnits, signed, IsUnits, IsNumber}
+use Rattle.std.proofs.Common.{◌≡◌, ◌≢◌, ℕ, ◌+◌, ◌*◌, ◌^◌, ◌≤◌, ◌↔◌, inl, inr, zero, suc, List, [], ◌∷◌, ◌++◌, length, Bool, true, false, ℤ, nat_abs, refl, sym, ◌∙◌, ap, subst, arith}
+use Rattle.helix_json.specs.Numbers.{IsDigit, AreDigits, Parts, Exponent, no_exponent, power, plus, minus, no_sign, IsWhole, IsExponent, SpellsNumber, fraction_text, exponent_text, minus_text, raised, lowered, digits_value, HasUnits, signed, IsUnits, IsNumber}
 use Rattle.helix_json.specs.Pieces.{NoDigit, TakesSign, TakesFraction, TakesExponent, ExponentIs, Found, AreUnits}
 
 -- digits up to the first other character are one list

@@ -1,6 +1,6 @@
 -- What is read as tokens is cut so.
-use Rattle.std.proofs.Common.{◌≡◌, ◌≢◌, ℕ, ◌+◌, ◌≤◌, ◌<◌, ◌⊎◌, inl, inr, Bool, true, false, IsTrue, ◌==◌, ◌&&◌, ◌||◌, nat_le, nat_lt, cond, Option, Some, None, List, [], ◌∷◌, ◌++◌, codes, refl, sym, ◌∙◌, ap, subst, arith, append_assoc}
-use Rattle.std.proofs.lemmas.Bool.{eqb-true, cond-true, cond-false}
+use Rattle.std.proofs.Common.{◌≡◌, ◌≢◌, ℕ, Bool, true, false, IsTrue, ◌==◌, nat_lt, cond, Option, Some, None, List, [], ◌∷◌, ◌++◌, refl, sym, ◌∙◌, ap, subst, append_assoc}
+use Rattle.std.proofs.lemmas.Bool.{eqb-true}
 use Rattle.std.proofs.lemmas.List.{append-nil}
 use Rattle.helix_json.specs.declared.token.Token.{Token}
 use Rattle.helix_json.specs.declared.token.Token.TheVariants as token
@@ -19,15 +19,15 @@ use Rattle.helix_json.specs.declared.digits.NumberState.TheVariants as number
 use Rattle.helix_json.specs.NumberSteps.{kind_of, number_step, number_ends, if_some, accepts}
 use Rattle.helix_json.specs.StringSteps.{string_step}
 use Rattle.helix_json.specs.Numbers.{IsNumber}
-use Rattle.helix_json.specs.Text.{is_blank, AreBlanks, SpellsToken, SpellsChars, Cuts}
-use Rattle.helix_json.specs.Lexer.{Lex, between, in_string, in_number, in_word, lex, lex_step, lex_end, on_emission, prepend, class, by_class, between_step, mark_token, word_token, word_rest, word_move, string_move, begin_number, number_move, end_number, end_tokens, with_token, Emission}
+use Rattle.helix_json.specs.Text.{is_blank, SpellsToken, SpellsChars, Cuts}
+use Rattle.helix_json.specs.Lexer.{Lex, between, in_string, in_number, in_word, lex, lex_step, lex_end, on_emission, prepend, class, by_class, between_step, mark_token, word_token, word_rest, word_move, string_move, begin_number, number_move, end_number, end_tokens}
 use Rattle.helix_json.proofs.NumberGrammar.{tail_from}
 use Rattle.helix_json.proofs.Lexing.{mark_code, with_front}
 use Rattle.std.specs.Char.{digit_value}
 use Rattle.helix_json.specs.Text.{escaped}
 use Rattle.helix_json.specs.StringSteps.{give_or_refuse}
 use Rattle.helix_json.proofs.StringBack.{Fine, Prefix, After, string_after, unit_cases, low_cases}
-use Rattle.helix_json.proofs.Tests.{choose}
+use Rattle.helix_json.proofs.Decides.{choose}
 
 -- what a class says of a character
 abbrev ClassMeans : Class → ℕ → Type 0

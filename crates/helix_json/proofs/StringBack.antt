@@ -1,16 +1,16 @@
 -- What has been read of a string's character, and what one more character of the text makes of it.
-use Rattle.std.proofs.Common.{◌≡◌, ◌≢◌, ℕ, ◌+◌, ◌*◌, ◌-◌, ◌≤◌, ◌<◌, ◌⊎◌, inl, inr, zero, suc, Bool, true, false, ◌==◌, ◌&&◌, ◌||◌, nat_le, nat_lt, cond, Option, Some, None, List, [], ◌∷◌, ◌++◌, length, refl, sym, ◌∙◌, ap, subst, arith, append_assoc}
+use Rattle.std.proofs.Common.{◌≡◌, ℕ, ◌+◌, ◌*◌, ◌-◌, ◌≤◌, ◌<◌, inl, inr, zero, suc, Bool, true, false, ◌==◌, ◌&&◌, ◌||◌, nat_le, nat_lt, Option, Some, None, List, [], ◌∷◌, ◌++◌, length, refl, sym, ◌∙◌, ap, subst, arith, append_assoc}
 use Rattle.std.proofs.lemmas.Bool.{eqb-true, leb-true, leb-false, ltb-true, ltb-false, eq-eqb, le-leb, lt-ltb}
 use Rattle.std.specs.Char.{digit_value}
 use Rattle.helix_json.specs.declared.string.StringState.{StringState}
 use Rattle.helix_json.specs.declared.string.StringState.TheVariants as state
 use Rattle.helix_json.specs.declared.string.StringMove.{StringMove}
 use Rattle.helix_json.specs.declared.string.StringMove.TheVariants as move
-use Rattle.helix_json.specs.Text.{SpellsUnit, IsHigh, IsLow, How, itself, by_letter, by_unit, by_pair, SpellsAs, SpellsChars, escaped}
+use Rattle.helix_json.specs.Text.{SpellsUnit, IsHigh, IsLow, How, itself, by_letter, by_unit, by_pair, SpellsAs, escaped}
 use Rattle.helix_json.specs.StringSteps.{string_step, plain_step, backslash_step, give_or_refuse, unit_step, low_step}
 use Rattle.helix_json.proofs.Decimal.{le_or_lt}
 use Rattle.helix_json.proofs.NumberGrammar.{true_not_false}
-use Rattle.helix_json.proofs.Tests.{bool_false, differ, not_le, not_lt, either_of, both_of, choose}
+use Rattle.helix_json.proofs.Decides.{both_of, choose}
 
 two_true : (a b : Bool) → a ≡ true → b ≡ true → (a && b) ≡ true
 two_true true b e f = f

@@ -1,5 +1,5 @@
 -- The characters of a string, read one character of the text after the other.
-use Rattle.std.proofs.Common.{◌≡◌, ◌≢◌, ℕ, ◌+◌, ◌*◌, ◌-◌, ◌≤◌, ◌<◌, ◌⊎◌, inl, inr, Bool, true, false, ◌==◌, ◌&&◌, ◌||◌, nat_le, nat_lt, cond, Option, Some, None, List, [], ◌∷◌, ◌++◌, refl, sym, ◌∙◌, ap, subst, arith, append_assoc}
+use Rattle.std.proofs.Common.{◌≡◌, ◌≢◌, ℕ, ◌+◌, ◌*◌, ◌-◌, ◌≤◌, ◌<◌, ◌⊎◌, inl, inr, Bool, true, false, ◌==◌, ◌&&◌, nat_le, nat_lt, Option, Some, None, List, [], ◌∷◌, ◌++◌, refl, sym, ◌∙◌, ap, arith, append_assoc}
 use Rattle.std.proofs.lemmas.Bool.{eqb-true, leb-true, ltb-true, le-leb, lt-ltb, cond-true, cond-false}
 use Rattle.std.proofs.lemmas.List.{append-nil}
 use Rattle.std.specs.Char.{digit_value}
@@ -7,13 +7,12 @@ use Rattle.helix_json.specs.declared.token.Token.{Token}
 use Rattle.helix_json.specs.declared.token.Token.TheVariants as token
 use Rattle.helix_json.specs.declared.string.StringState.{StringState}
 use Rattle.helix_json.specs.declared.string.StringState.TheVariants as state
-use Rattle.helix_json.specs.declared.string.StringMove.{StringMove}
 use Rattle.helix_json.specs.declared.string.StringMove.TheVariants as move
-use Rattle.helix_json.specs.Text.{SpellsUnit, IsHigh, IsLow, How, itself, by_letter, by_unit, by_pair, SpellsAs, SpellsChars, escaped}
-use Rattle.helix_json.specs.StringSteps.{string_step, plain_step, backslash_step, give_or_refuse, unit_step, low_step}
-use Rattle.helix_json.specs.Lexer.{Lex, between, in_string, in_number, in_word, lex, lex_step, on_emission, prepend, string_move}
+use Rattle.helix_json.specs.Text.{IsHigh, IsLow, How, itself, by_letter, by_unit, by_pair, SpellsAs, SpellsChars, escaped}
+use Rattle.helix_json.specs.StringSteps.{string_step, give_or_refuse, unit_step, low_step}
+use Rattle.helix_json.specs.Lexer.{between, in_string, lex, on_emission, prepend, string_move}
 use Rattle.helix_json.proofs.Decimal.{le_or_lt}
-use Rattle.helix_json.proofs.Tests.{bool_false, differ, not_le, not_lt, either_of, both_of}
+use Rattle.helix_json.proofs.Decides.{bool_false, differ, not_le, not_lt, either_of, both_of}
 
 pub prepend_nil : (o : Option (List Token)) → prepend [] o ≡ o
 prepend_nil None = refl

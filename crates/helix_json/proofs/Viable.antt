@@ -1,7 +1,6 @@
 -- What has been read and not refused can end in a value; what is refused begins none.
-use Rattle.std.proofs.Common.{◌≡◌, ◌≢◌, ℕ, ◌+◌, ◌≤◌, ◌<◌, ◌*◌, zero, suc, Bool, true, false, IsTrue, ◌==◌, ◌&&◌, nat_le, nat_lt, cond, Option, Some, None, is_some, List, [], ◌∷◌, ◌++◌, codes, refl, sym, ◌∙◌, ap, subst, arith, append_assoc}
-use Rattle.std.proofs.lemmas.Bool.{eqb-true, eq-eqb, cond-true}
-use Rattle.std.proofs.lemmas.List.{append-nil}
+use Rattle.std.proofs.Common.{◌≡◌, ◌≢◌, ℕ, ◌+◌, ◌≤◌, ◌*◌, zero, suc, Bool, true, false, ◌==◌, ◌&&◌, nat_le, nat_lt, cond, Option, Some, None, is_some, List, [], ◌∷◌, ◌++◌, codes, refl, sym, ◌∙◌, ap, subst, arith, append_assoc}
+use Rattle.std.proofs.lemmas.Bool.{eq-eqb, cond-true}
 use Rattle.helix_json.specs.declared.value.Json.{Json}
 use Rattle.helix_json.specs.declared.token.Token.{Token}
 use Rattle.helix_json.specs.declared.token.Token.TheVariants as token
@@ -17,15 +16,14 @@ use Rattle.helix_json.specs.StringSteps.{string_step}
 use Rattle.helix_json.specs.Text.{SpellsText}
 use Rattle.helix_json.specs.Tokens.{tokens}
 use Rattle.helix_json.specs.Broken.{IsViable}
-use Rattle.helix_json.specs.Lexer.{Lex, between, in_string, in_number, in_word, lex, lex_step, on_emission, prepend, word_token, word_move, Emission}
-use Rattle.helix_json.specs.Machine.{Reading, value, first_item, first_key, key, colon, after, Frame, in_list, in_object, run, step, value_step, on_some}
+use Rattle.helix_json.specs.Lexer.{Lex, between, in_string, in_number, in_word, lex, lex_step, on_emission, prepend, word_token, word_move}
+use Rattle.helix_json.specs.Machine.{Reading, value, first_item, first_key, key, colon, after, Frame, in_list, in_object, run, step, on_some}
 use Rattle.helix_json.specs.Scan.{may_go}
-use Rattle.helix_json.proofs.Machine.{run_tokens, run-append, tokens_from, closers, finish, Finishes, finishes, refused}
+use Rattle.helix_json.proofs.Machine.{run_tokens, run-append, tokens_from, closers, finish, finishes}
 use Rattle.helix_json.proofs.Strings.{prepend_nil, lex_go, lex_give}
-use Rattle.helix_json.proofs.Lexing.{EndsNumber, number_read, lexes_value, after_number, number_leads}
+use Rattle.helix_json.proofs.Lexing.{EndsNumber, number_read, lexes_value, number_leads}
 use Rattle.helix_json.proofs.StringBack.{Fine}
 use Rattle.helix_json.proofs.Sound.{sound, Goes, some_is}
-use Rattle.helix_json.proofs.Tests.{choose}
 
 -- each string can end
 abbrev pub EndsString : StringState → List ℕ → Type 0

@@ -1,12 +1,10 @@
 -- The rules of JSON text, and the first that is broken.
-use Rattle.std.specs.Prelude.{◌≡◌, ◌≢◌, ◌⊎◌, ℕ, zero, suc, ◌+◌, ◌<◌, ◌≤◌, ◌==◌, Bool, true, false, IsTrue, List, [], ◌∷◌, ◌++◌, length, take}
-use Rattle.std.specs.Str.{IsUtf8, IsValidUpTo, all_scalars, encode_utf8_all}
+use Rattle.std.specs.Prelude.{◌≡◌, ℕ, zero, suc, ◌<◌, ◌≤◌, IsTrue, List, [], ◌∷◌, ◌++◌, length, take}
+use Rattle.std.specs.Str.{all_scalars, encode_utf8_all}
 use Rattle.helix_json.specs.declared.value.Json.{Json}
-use Rattle.helix_json.specs.declared.fault.JsonFault.{JsonFault}
-use Rattle.helix_json.specs.declared.fault.JsonFault.TheVariants as fault
 use Rattle.helix_json.specs.declared.token.Token.{Token}
 use Rattle.helix_json.specs.declared.token.Token.TheVariants as token
-use Rattle.helix_json.specs.Text.{Cuts, SpellsToken, SpellsText}
+use Rattle.helix_json.specs.Text.{SpellsText}
 
 -- the bytes are these characters in UTF-8
 abbrev pub AreBytesOf : List ℕ → List ℕ → Type 0

@@ -1,5 +1,5 @@
 -- The tokens of a text, one character after the other. Only the crate's private clauses cite it.
-use Rattle.std.specs.Prelude.{ℕ, ◌+◌, Bool, true, false, ◌==◌, ◌||◌, if◌then◌else◌, Option, Some, None, List, [], ◌∷◌, ◌++◌, codes}
+use Rattle.std.specs.Prelude.{ℕ, Bool, true, false, ◌==◌, if◌then◌else◌, Option, Some, None, List, [], ◌∷◌, ◌++◌, codes}
 use Rattle.helix_json.specs.declared.token.Token.{Token}
 use Rattle.helix_json.specs.declared.token.Token.TheVariants as token
 use Rattle.helix_json.specs.declared.class.Mark.{Mark}

@@ -1,7 +1,6 @@
 -- Which tokens may come next. Only the crate's private clauses cite it.
-use Rattle.std.specs.Prelude.{ℕ, Bool, true, false, Option, Some, None, List, [], ◌∷◌, ◌++◌}
+use Rattle.std.specs.Prelude.{Bool, true, []}
 use Rattle.std.specs.Option.{is_some}
-use Rattle.helix_json.specs.declared.token.Token.{Token}
 use Rattle.helix_json.specs.declared.token.Token.TheVariants as token
 use Rattle.helix_json.specs.Lexer.{Lex, between, in_string, in_number, in_word, word_token}
 use Rattle.helix_json.specs.Machine.{Reading, step}

@@ -1,5 +1,5 @@
 -- The grammar of strings, one character after the other. Only the crate's private clauses cite it.
-use Rattle.std.specs.Prelude.{ℕ, ◌+◌, ◌*◌, ◌-◌, Bool, true, false, ◌==◌, ◌||◌, ◌&&◌, nat_le, nat_lt, if◌then◌else◌, Option, Some, None, List, [], ◌∷◌}
+use Rattle.std.specs.Prelude.{ℕ, ◌+◌, ◌*◌, ◌-◌, ◌==◌, ◌||◌, ◌&&◌, nat_le, nat_lt, if◌then◌else◌, Option, Some, None}
 use Rattle.std.specs.Char.{digit_value}
 use Rattle.helix_json.specs.Text.{escaped}
 use Rattle.helix_json.specs.declared.string.StringState.{StringState}

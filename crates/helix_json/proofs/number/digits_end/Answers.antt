@@ -1,4 +1,4 @@
-use Rattle.std.proofs.Common.{arith, rules}
+use Rattle.std.proofs.Common.{rules}
 use Rattle.helix_json.proofs.Decimal.{digits_more}
 use Rattle.helix_json.proofs.number.digits_end.Goals as goal
 

@@ -1,6 +1,6 @@
 use Rattle.std.proofs.Common.{arith, ◌++◌, length}
 use Rattle.helix_json.specs.Numbers.{digits_value}
-use Rattle.helix_json.proofs.Decimal.{units_none, units_zero, units_huge, units_lowered, units_raised}
+use Rattle.helix_json.proofs.Decimal.{units_none, units_huge, units_lowered, units_raised}
 use Rattle.helix_json.proofs.Options.{some_map, none_map}
 use Rattle.helix_json.proofs.units.magnitude.Goals as goal
 

@@ -1,5 +1,5 @@
-use Rattle.std.proofs.Common.{arith, subst, sym, ◌≡◌, ◌≢◌, ◌++◌, ◌^◌, refl, ℕ}
-use Rattle.helix_json.specs.Numbers.{digits_value, digits_from}
+use Rattle.std.proofs.Common.{arith, subst, sym, ◌^◌, refl, ℕ}
+use Rattle.helix_json.specs.Numbers.{digits_value}
 use Rattle.helix_json.specs.Pieces.{IsReduced, Unreachable}
 use Rattle.helix_json.proofs.Decimal.{from-append, unreachable_digits}
 use Rattle.helix_json.proofs.Options.{some_map, none_map}
