@@ -10,3 +10,4 @@ pub mod OneValue
 pub mod StringBack
 pub mod Sound
 pub mod Viable
+pub mod Needs

@@ -1,4 +1,4 @@
-use crate::{is_number, number_units};
+use crate::{is_number, number_units, one_value};
 use helix_base::Text;
 use std::test::Fail;
 
@@ -47,6 +47,35 @@ fn numbers_have_their_exact_units(rt: HostRuntime) -> Result<(), Fail> {
         let text = Text::of(rt.alloc(), string)?;
         assert!(rt; is_number(&text), "{string}");
         assert_eq!(rt; number_units(&text), want, "{string}");
+    }
+    Ok(())
+}
+
+#[test]
+fn numbers_are_told_from_other_texts(rt: HostRuntime) -> Result<(), Fail> {
+    one_value();
+    let cases = [
+        ("0", true),
+        ("-0.0e+0", true),
+        ("10", true),
+        ("1E9", true),
+        ("", false),
+        ("-", false),
+        ("+1", false),
+        ("01", false),
+        ("-01", false),
+        ("1.", false),
+        (".5", false),
+        ("1e", false),
+        ("1e+", false),
+        ("1.e1", false),
+        ("0x1", false),
+        ("1 ", false),
+        ("NaN", false),
+    ];
+    for (string, want) in cases {
+        let text = Text::of(rt.alloc(), string)?;
+        assert_eq!(rt; is_number(&text), want, "{string}");
     }
     Ok(())
 }
