@@ -11,3 +11,4 @@ pub mod StringBack
 pub mod Sound
 pub mod Viable
 pub mod Needs
+pub mod Values

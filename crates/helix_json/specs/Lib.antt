@@ -9,3 +9,4 @@ pub mod StringSteps
 pub mod Lexer
 pub mod Scan
 pub mod Need
+pub mod Values

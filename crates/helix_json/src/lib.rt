@@ -15,7 +15,7 @@ mod value;
 
 pub use digits::is_number;
 pub use fault::JsonFault;
-pub use laws::one_value;
+pub use laws::{numbers_of_a_value, one_value};
 pub use token::Token;
 pub use units::number_units;
 pub use value::{Items, Json, Member, Members};

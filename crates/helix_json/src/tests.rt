@@ -1,4 +1,4 @@
-use crate::{is_number, number_units, one_value};
+use crate::{is_number, number_units, numbers_of_a_value, one_value};
 use helix_base::Text;
 use std::test::Fail;
 
@@ -54,6 +54,7 @@ fn numbers_have_their_exact_units(rt: HostRuntime) -> Result<(), Fail> {
 #[test]
 fn numbers_are_told_from_other_texts(rt: HostRuntime) -> Result<(), Fail> {
     one_value();
+    numbers_of_a_value();
     let cases = [
         ("0", true),
         ("-0.0e+0", true),
