@@ -1,0 +1,14 @@
+pub mod Decimal
+pub mod Options
+pub mod Parts
+pub mod NumberGrammar
+pub mod Machine
+pub mod Decides
+pub mod Strings
+pub mod Lexing
+pub mod OneValue
+pub mod StringBack
+pub mod Sound
+pub mod Viable
+pub mod Needs
+pub mod Values

@@ -1,0 +1,6 @@
+use Rattle.std.proofs.Common.{take}
+use Rattle.helix_json.specs.Numbers.{AreDigits}
+use Rattle.helix_json.proofs.number.digits_end.Given as goal
+
+abbrev pub invariant-loop-i : goal.invariant-loop-i
+invariant-loop-i l = AreDigits (take l.i l.codes)

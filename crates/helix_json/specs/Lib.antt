@@ -1,0 +1,12 @@
+pub mod Tokens
+pub mod Numbers
+pub mod Pieces
+pub mod Text
+pub mod Broken
+pub mod NumberSteps
+pub mod Machine
+pub mod StringSteps
+pub mod Lexer
+pub mod Scan
+pub mod Need
+pub mod Values

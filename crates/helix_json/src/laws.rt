@@ -1,0 +1,16 @@
+//! What holds of JSON text by its definition alone.
+
+ghost use Rattle.std.specs.Prelude.{◌≡◌, ℕ, List};
+ghost use Rattle.helix_json.specs.declared.value.Json.{Json as Value};
+ghost use Rattle.helix_json.specs.Broken.{SpellsJson};
+ghost use Rattle.helix_json.specs.Values.{HasNumbers};
+
+/// The numbers of a value that bytes spell are JSON numbers, as `number_units` needs them.
+pub fn numbers_of_a_value()
+    ensures { (bytes : List ℕ) → (v : Value) → SpellsJson bytes v → HasNumbers v }
+{}
+
+/// Bytes spell at most one value.
+pub fn one_value()
+    ensures { (bytes : List ℕ) → (v w : Value) → SpellsJson bytes v → SpellsJson bytes w → v ≡ w }
+{}

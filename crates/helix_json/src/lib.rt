@@ -1,0 +1,24 @@
+//! JSON text, read exactly: the one value that a text spells, or the first broken rule and its
+//! place.
+#![tactic(auto)]
+
+mod class;
+mod digits;
+mod fault;
+mod laws;
+mod need;
+mod number;
+mod string;
+mod token;
+mod units;
+mod value;
+
+pub use digits::is_number;
+pub use fault::JsonFault;
+pub use laws::{numbers_of_a_value, one_value};
+pub use token::Token;
+pub use units::number_units;
+pub use value::{Items, Json, Member, Members};
+
+#[cfg(test)]
+mod tests;
