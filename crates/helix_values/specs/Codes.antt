@@ -1,0 +1,76 @@
+-- The check rules of ISIN (ISO 6166), SEDOL and CUSIP (ANSI X9.6).
+use Rattle.std.specs.Prelude.{ℕ, ◌+◌, ◌-◌, ◌*◌, ◌/◌, ◌%◌, Bool, false, not, ◌&&◌, ◌||◌, ◌==◌, nat_le, IsTrue, if◌then◌else◌, List, [], ◌∷◌, length, take, drop, map, reverse}
+use Rattle.std.specs.List.{list_all, list_any, flat_map}
+use Rattle.helix_values.specs.declared.kind.Code.{Code}
+use Rattle.helix_values.specs.declared.kind.Code.TheVariants.{Isin, Sedol, Cusip}
+
+abbrev pub is_digit : ℕ → Bool
+is_digit c = nat_le 48 c && nat_le c 57
+
+-- from A to Z
+abbrev pub is_letter : ℕ → Bool
+is_letter c = nat_le 65 c && nat_le c 90
+
+abbrev pub is_letter_or_digit : ℕ → Bool
+is_letter_or_digit c = is_letter c || is_digit c
+
+-- A, E, I, O or U
+abbrev pub is_vowel : ℕ → Bool
+is_vowel c = list_any (λ v. c == v) (65 ∷ 69 ∷ 73 ∷ 79 ∷ 85 ∷ [])
+
+-- `*`, `@` or `#`
+abbrev pub is_cusip_sign : ℕ → Bool
+is_cusip_sign c = list_any (λ s. c == s) (42 ∷ 64 ∷ 35 ∷ [])
+
+-- a digit's own value, 10 to 35 for A to Z, and 36 to 38 for `*`, `@` and `#`
+abbrev pub value_of : ℕ → ℕ
+value_of c = if is_digit c then c - 48 else (if c == 42 then 36 else (if c == 64 then 37 else (if c == 35 then 38 else c - 55)))
+
+-- the two decimal digits of a number below 100, added
+abbrev pub digit_sum : ℕ → ℕ
+digit_sum n = n / 10 + n % 10
+
+-- each second number is doubled, the first where `twice` says so; then the decimal digits of all are added
+abbrev pub doubled_sum : Bool → List ℕ → ℕ
+doubled_sum twice [] = 0
+doubled_sum twice (n ∷ ns) = digit_sum (if twice then 2 * n else n) + doubled_sum (not twice) ns
+
+-- a letter as the two digits of its value, a digit as itself
+abbrev pub digits_of : ℕ → List ℕ
+digits_of c = if is_digit c then value_of c ∷ [] else value_of c / 10 ∷ value_of c % 10 ∷ []
+
+-- two letters, nine letters or digits, one digit; of the digits, counted from the last, each second one is doubled
+abbrev pub is_isin : List ℕ → Bool
+is_isin word =
+    (length word == 12) && list_all is_letter (take 2 word) && list_all is_letter_or_digit (drop 2 word)
+    && list_all is_digit (drop 11 word)
+    && (doubled_sum false (reverse (flat_map digits_of word)) % 10 == 0)
+
+-- the products of the weights and the values of the characters, added
+abbrev pub weighted_sum : List ℕ → List ℕ → ℕ
+weighted_sum (w ∷ ws) (c ∷ cs) = w * value_of c + weighted_sum ws cs
+weighted_sum ws cs = 0
+
+abbrev pub sedol_weights : List ℕ
+sedol_weights = 1 ∷ 3 ∷ 1 ∷ 7 ∷ 3 ∷ 9 ∷ 1 ∷ []
+
+-- six digits or letters other than vowels, then a digit
+abbrev pub is_sedol : List ℕ → Bool
+is_sedol word =
+    (length word == 7) && list_all (λ c. is_letter_or_digit c && not (is_vowel c)) word && list_all is_digit (drop 6 word)
+    && (weighted_sum sedol_weights word % 10 == 0)
+
+-- eight digits, letters or signs, then a digit; each second value is doubled, from the second on
+abbrev pub is_cusip : List ℕ → Bool
+is_cusip word =
+    (length word == 9) && list_all (λ c. is_letter_or_digit c || is_cusip_sign c) word && list_all is_digit (drop 8 word)
+    && (doubled_sum false (map value_of word) % 10 == 0)
+
+-- a word of the code with the right check digit
+abbrev pub is_valid_code : Code → List ℕ → Bool
+is_valid_code Isin word = is_isin word
+is_valid_code Sedol word = is_sedol word
+is_valid_code Cusip word = is_cusip word
+
+abbrev pub IsValidCode : Code → List ℕ → Type 0
+IsValidCode code word = IsTrue (is_valid_code code word)

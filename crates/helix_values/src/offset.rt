@@ -1,0 +1,14 @@
+//! Offsets between two values.
+
+/// How far a value is shifted. `specs/Shift.antt` says where a shifted value lies.
+#[derive(Clone, Copy, Debug, PartialEq, Eq)]
+pub enum Offset {
+    /// So many units of a number, or milliseconds of a moment.
+    Plain(i128),
+    /// So many months: the day of the same number, or the last one of a shorter month.
+    Months(i64),
+    /// So many times twelve months.
+    Years(i64),
+    /// So many days from Monday to Friday.
+    WorkingDays(i64),
+}

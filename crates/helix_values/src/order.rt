@@ -1,0 +1,47 @@
+//! The order of cells and of rows.
+
+ghost use Rattle.std.specs.Prelude.{◌≡◌};
+ghost use Rattle.helix_values.specs.Class.{AreComparable, AreComparableRows};
+ghost use Rattle.helix_values.specs.Order.{cell_cmp, row_cmp, text_cmp};
+ghost use Rattle.helix_values.specs.View.{cell_of};
+
+use crate::cell::{Cell, CellRef};
+use std::cmp::Ordering;
+
+/// Compares two cells of one field.
+pub fn cmp_cell(a: CellRef<'_>, b: CellRef<'_>) -> Ordering
+    requires { AreComparable (cell_of a) (cell_of b) }
+    ensures { result ≡ cell_cmp (cell_of a.entry) (cell_of b.entry) }
+{
+    match (a, b) {
+        (CellRef::Null, CellRef::Null) => Ordering::Equal,
+        (CellRef::Null, _) => Ordering::Greater,
+        (_, CellRef::Null) => Ordering::Less,
+        (CellRef::Bool(a), CellRef::Bool(b)) => a.cmp(&b),
+        (CellRef::Number(a), CellRef::Number(b)) => a.cmp(&b),
+        (CellRef::Moment(a), CellRef::Moment(b)) => a.cmp(&b),
+        (CellRef::Text(a), CellRef::Text(b)) => cmp_text(a, b),
+        _ => unreachable!(),
+    }
+}
+
+/// The shorter text first, and texts of one length by their code points.
+fn cmp_text(a: &[u32], b: &[u32]) -> Ordering
+    ensures { result ≡ text_cmp a.now b.now }
+{
+    a.len().cmp(&b.len()).then(a.cmp(b))
+}
+
+/// Compares two rows of the same fields, by the first field in which they differ.
+pub fn cmp_cells(a: &[Cell], b: &[Cell]) -> Ordering
+    requires { AreComparableRows a.now b.now }
+    ensures { result ≡ row_cmp a.now b.now }
+{
+    for (i, cell) in a.iter().enumerate() {
+        match cmp_cell(cell.view(), b[i].view()) {
+            Ordering::Equal => {}
+            order => return order,
+        }
+    }
+    Ordering::Equal
+}
