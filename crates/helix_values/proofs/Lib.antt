@@ -1,2 +1,3 @@
 pub mod Lexicographic
 pub mod Iso8601
+pub mod Checksums

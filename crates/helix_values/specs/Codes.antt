@@ -14,13 +14,13 @@ is_letter c = nat_le 65 c && nat_le c 90
 abbrev pub is_letter_or_digit : ℕ → Bool
 is_letter_or_digit c = is_letter c || is_digit c
 
--- A, E, I, O or U
-abbrev pub is_vowel : ℕ → Bool
-is_vowel c = list_any (λ v. c == v) (65 ∷ 69 ∷ 73 ∷ 79 ∷ 85 ∷ [])
+-- a digit, or a letter other than A, E, I, O and U
+abbrev pub is_sedol_character : ℕ → Bool
+is_sedol_character c = is_letter_or_digit c && not (list_any (λ v. c == v) (65 ∷ 69 ∷ 73 ∷ 79 ∷ 85 ∷ []))
 
--- `*`, `@` or `#`
-abbrev pub is_cusip_sign : ℕ → Bool
-is_cusip_sign c = list_any (λ s. c == s) (42 ∷ 64 ∷ 35 ∷ [])
+-- a digit, a letter, `*`, `@` or `#`
+abbrev pub is_cusip_character : ℕ → Bool
+is_cusip_character c = is_letter_or_digit c || list_any (λ s. c == s) (42 ∷ 64 ∷ 35 ∷ [])
 
 -- a digit's own value, 10 to 35 for A to Z, and 36 to 38 for `*`, `@` and `#`
 abbrev pub value_of : ℕ → ℕ
@@ -39,12 +39,14 @@ doubled_sum twice (n ∷ ns) = digit_sum (if twice then 2 * n else n) + doubled_
 abbrev pub digits_of : ℕ → List ℕ
 digits_of c = if is_digit c then value_of c ∷ [] else value_of c / 10 ∷ value_of c % 10 ∷ []
 
--- two letters, nine letters or digits, one digit; of the digits, counted from the last, each second one is doubled
+-- two letters, nine letters or digits, one digit
+abbrev pub is_isin_shape : List ℕ → Bool
+is_isin_shape word = list_all is_letter (take 2 word) && list_all is_letter_or_digit (drop 2 word) && list_all is_digit (drop 11 word)
+
+-- of the digits of all characters, counted from the last, each second one is doubled
 abbrev pub is_isin : List ℕ → Bool
 is_isin word =
-    (length word == 12) && list_all is_letter (take 2 word) && list_all is_letter_or_digit (drop 2 word)
-    && list_all is_digit (drop 11 word)
-    && (doubled_sum false (reverse (flat_map digits_of word)) % 10 == 0)
+    (length word == 12) && is_isin_shape word && (doubled_sum false (reverse (flat_map digits_of word)) % 10 == 0)
 
 -- the products of the weights and the values of the characters, added
 abbrev pub weighted_sum : List ℕ → List ℕ → ℕ
@@ -54,17 +56,20 @@ weighted_sum ws cs = 0
 abbrev pub sedol_weights : List ℕ
 sedol_weights = 1 ∷ 3 ∷ 1 ∷ 7 ∷ 3 ∷ 9 ∷ 1 ∷ []
 
--- six digits or letters other than vowels, then a digit
-abbrev pub is_sedol : List ℕ → Bool
-is_sedol word =
-    (length word == 7) && list_all (λ c. is_letter_or_digit c && not (is_vowel c)) word && list_all is_digit (drop 6 word)
-    && (weighted_sum sedol_weights word % 10 == 0)
+-- six digits or letters other than vowels, one digit
+abbrev pub is_sedol_shape : List ℕ → Bool
+is_sedol_shape word = list_all is_sedol_character word && list_all is_digit (drop 6 word)
 
--- eight digits, letters or signs, then a digit; each second value is doubled, from the second on
+abbrev pub is_sedol : List ℕ → Bool
+is_sedol word = (length word == 7) && is_sedol_shape word && (weighted_sum sedol_weights word % 10 == 0)
+
+-- eight digits, letters or signs, one digit
+abbrev pub is_cusip_shape : List ℕ → Bool
+is_cusip_shape word = list_all is_cusip_character word && list_all is_digit (drop 8 word)
+
+-- each second value is doubled, from the second on
 abbrev pub is_cusip : List ℕ → Bool
-is_cusip word =
-    (length word == 9) && list_all (λ c. is_letter_or_digit c || is_cusip_sign c) word && list_all is_digit (drop 8 word)
-    && (doubled_sum false (map value_of word) % 10 == 0)
+is_cusip word = (length word == 9) && is_cusip_shape word && (doubled_sum false (map value_of word) % 10 == 0)
 
 -- a word of the code with the right check digit
 abbrev pub is_valid_code : Code → List ℕ → Bool

@@ -9,15 +9,19 @@
 
 mod cell;
 mod cells;
+mod codes;
 mod kind;
 mod offset;
 mod order;
+mod universe;
 
 pub use cell::{Cell, CellRef};
 pub use cells::{Cells, Row};
+pub use codes::valid;
 pub use kind::{Code, Kind};
 pub use offset::Offset;
 pub use order::{cmp_cell, cmp_cells};
+pub use universe::in_universe;
 
 #[cfg(test)]
 mod tests;

@@ -1,0 +1,196 @@
+//! The check rules of ISIN, SEDOL and CUSIP.
+
+ghost use Rattle.std.specs.Prelude.{◌≡◌, ◌↔◌, ◌^◌, ◌<◌, ◌≤◌, IsTrue, false, reverse, map, length};
+ghost use Rattle.std.specs.Prelude.{if◌then◌else◌, ◌*◌};
+ghost use Rattle.std.specs.List.{flat_map, list_all};
+ghost use Rattle.helix_values.specs.Codes.{IsValidCode, is_isin as isin, is_sedol as sedol, is_cusip as cusip};
+ghost use Rattle.helix_values.specs.Codes.{is_isin_shape as isin_shape, is_sedol_shape as sedol_shape, is_cusip_shape as cusip_shape};
+ghost use Rattle.helix_values.specs.Codes.{is_digit as digit, is_letter as letter, is_letter_or_digit as letter_or_digit};
+ghost use Rattle.helix_values.specs.Codes.{is_sedol_character as sedol_character, is_cusip_character as cusip_character};
+ghost use Rattle.helix_values.specs.Codes.{value_of as value, digits_of, digit_sum, doubled_sum, weighted_sum, sedol_weights};
+
+use crate::kind::Code;
+
+/// The weights of the characters of a SEDOL.
+const SEDOL_WEIGHTS: [u64; 7] = [1, 3, 1, 7, 3, 9, 1];
+
+/// Whether a word is one of a code, with the right check digit.
+pub fn valid(code: Code, word: &[u32]) -> bool
+    ensures { IsTrue result ↔ IsValidCode code word.now }
+{
+    match code {
+        Code::Isin => is_isin(word),
+        Code::Sedol => is_sedol(word),
+        Code::Cusip => is_cusip(word),
+    }
+}
+
+fn is_isin(word: &[u32]) -> bool
+    ensures { result ≡ isin word.now }
+{
+    word.len() == 12 && is_isin_shape(word) && isin_sum(word) % 10 == 0
+}
+
+fn is_sedol(word: &[u32]) -> bool
+    ensures { result ≡ sedol word.now }
+{
+    word.len() == 7 && is_sedol_shape(word) && sedol_sum(word) % 10 == 0
+}
+
+fn is_cusip(word: &[u32]) -> bool
+    ensures { result ≡ cusip word.now }
+{
+    word.len() == 9 && is_cusip_shape(word) && cusip_sum(word) % 10 == 0
+}
+
+fn is_isin_shape(word: &[u32]) -> bool
+    requires { length word.now ≡ 12 }
+    ensures { result ≡ isin_shape word.now }
+{
+    are_letters(&word[..2]) && are_letters_or_digits(&word[2..]) && are_digits(&word[11..])
+}
+
+fn is_sedol_shape(word: &[u32]) -> bool
+    requires { length word.now ≡ 7 }
+    ensures { result ≡ sedol_shape word.now }
+{
+    are_sedol_characters(word) && are_digits(&word[6..])
+}
+
+fn is_cusip_shape(word: &[u32]) -> bool
+    requires { length word.now ≡ 9 }
+    ensures { result ≡ cusip_shape word.now }
+{
+    are_cusip_characters(word) && are_digits(&word[8..])
+}
+
+fn are_digits(word: &[u32]) -> bool
+    ensures { result ≡ list_all digit word.now }
+{
+    word.iter().all(|c| is_digit(*c))
+}
+
+fn are_letters(word: &[u32]) -> bool
+    ensures { result ≡ list_all letter word.now }
+{
+    word.iter().all(|c| is_letter(*c))
+}
+
+fn are_letters_or_digits(word: &[u32]) -> bool
+    ensures { result ≡ list_all letter_or_digit word.now }
+{
+    word.iter().all(|c| is_letter(*c) || is_digit(*c))
+}
+
+fn are_sedol_characters(word: &[u32]) -> bool
+    ensures { result ≡ list_all sedol_character word.now }
+{
+    word.iter().all(|c| is_sedol_character(*c))
+}
+
+fn are_cusip_characters(word: &[u32]) -> bool
+    ensures { result ≡ list_all cusip_character word.now }
+{
+    word.iter().all(|c| is_cusip_character(*c))
+}
+
+/// The digits of all characters, counted from the last, each second one doubled, added.
+fn isin_sum(word: &[u32]) -> u64
+    requires { length word.now ≤ 12 }
+    ensures { result ≡ doubled_sum false (reverse (flat_map digits_of word.now)) }
+{
+    let mut sum = 0;
+    let mut twice = false;
+    for i in 0..word.len() {
+        let c = word[word.len() - 1 - i];
+        sum += character_sum(c, twice);
+        // A letter has two digits, and so leaves the turn as it is.
+        twice = twice != is_digit(c);
+    }
+    sum
+}
+
+/// The digits of a character, counted from the last, the first or the second one doubled, added.
+fn character_sum(c: u32, twice: bool) -> u64
+    ensures sum { result ≡ doubled_sum twice (reverse (digits_of c)) }
+    ensures small { result < 2 ^ 36 }
+{
+    let value = value_of(c);
+    if is_digit(c) {
+        doubled(value, twice)
+    } else {
+        doubled(value % 10, twice) + doubled(value / 10, !twice)
+    }
+}
+
+fn sedol_sum(word: &[u32]) -> u64
+    requires { length word.now ≡ 7 }
+    ensures { result ≡ weighted_sum sedol_weights word.now }
+{
+    let mut sum = 0;
+    for (i, c) in word.iter().enumerate() {
+        sum += SEDOL_WEIGHTS[i] * value_of(*c);
+    }
+    sum
+}
+
+/// The values of all characters, each second one doubled, as the sum of their digits.
+fn cusip_sum(word: &[u32]) -> u64
+    requires { length word.now ≤ 12 }
+    ensures { result ≡ doubled_sum false (map value word.now) }
+{
+    let mut sum = 0;
+    let mut twice = false;
+    for c in word {
+        sum += doubled(value_of(*c), twice);
+        twice = !twice;
+    }
+    sum
+}
+
+/// A number, doubled or not, as the sum of its two digits.
+fn doubled(n: u64, twice: bool) -> u64
+    requires { n < 2 ^ 32 }
+    ensures sum { result ≡ digit_sum (if twice then 2 * n else n) }
+    ensures small { result < 2 ^ 34 }
+{
+    let n = if twice { 2 * n } else { n };
+    n / 10 + n % 10
+}
+
+fn value_of(c: u32) -> u64
+    ensures value { result ≡ value c }
+    ensures small { result < 2 ^ 32 }
+{
+    match c {
+        0x30..=0x39 => u64::from(c - 0x30),
+        0x2A => 36,
+        0x40 => 37,
+        0x23 => 38,
+        _ => u64::from(c.saturating_sub(55)),
+    }
+}
+
+fn is_digit(c: u32) -> bool
+    ensures { result ≡ digit c }
+{
+    (0x30..=0x39).contains(&c)
+}
+
+fn is_letter(c: u32) -> bool
+    ensures { result ≡ letter c }
+{
+    (0x41..=0x5A).contains(&c)
+}
+
+fn is_sedol_character(c: u32) -> bool
+    ensures { result ≡ sedol_character c }
+{
+    (is_letter(c) || is_digit(c)) && !matches!(c, 0x41 | 0x45 | 0x49 | 0x4F | 0x55)
+}
+
+fn is_cusip_character(c: u32) -> bool
+    ensures { result ≡ cusip_character c }
+{
+    is_letter(c) || is_digit(c) || matches!(c, 0x2A | 0x40 | 0x23)
+}

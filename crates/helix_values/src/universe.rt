@@ -1,0 +1,80 @@
+//! The universe of a kind.
+
+ghost use Rattle.std.specs.Prelude.{◌↔◌, ◌^◌, IsTrue};
+ghost use Rattle.helix_base.specs.Alphabet.{IsCharacterOf};
+ghost use Rattle.helix_values.specs.Calendar.{IsMoment, millis_of_day};
+ghost use Rattle.helix_values.specs.Grids.{IsMultipleOf};
+ghost use Rattle.helix_values.specs.Universe.{InUniverse, IsNumber};
+ghost use Rattle.helix_values.specs.View.{cell_of};
+
+use crate::cell::CellRef;
+use crate::codes::valid;
+use crate::kind::Kind;
+use helix_base::Alphabet;
+
+/// One, in units of 10^-15.
+const ONE: i128 = 1_000_000_000_000_000;
+
+/// The greatest number, 10^20, in units of 10^-15.
+const GREATEST: i128 = 100_000_000_000_000_000_000_000_000_000_000_000;
+
+/// The milliseconds of a day.
+const DAY: i64 = 86_400_000;
+
+/// The last millisecond of the year 9999.
+const LAST: i64 = 315_537_897_599_999;
+
+/// The most characters that a text may have.
+const LONGEST: usize = 1000;
+
+/// Whether a cell holds a value of a kind.
+pub fn in_universe(kind: Kind, cell: CellRef<'_>) -> bool
+    ensures { IsTrue result ↔ InUniverse kind (cell_of cell.entry) }
+{
+    match (kind, cell) {
+        (Kind::Boolean, CellRef::Bool(_)) => true,
+        (Kind::Integer, CellRef::Number(units)) => is_number(units) && is_whole(units),
+        (Kind::Decimal, CellRef::Number(units)) => is_number(units),
+        (Kind::Text(alphabet), CellRef::Text(codes)) => {
+            codes.len() <= LONGEST && codes.iter().all(|code| is_character(alphabet, *code))
+        }
+        (Kind::Date, CellRef::Moment(at)) => is_moment(at) && is_midnight(at),
+        (Kind::DateTime, CellRef::Moment(at)) => is_moment(at),
+        (Kind::Code(code), CellRef::Text(word)) => valid(code, word),
+        _ => false,
+    }
+}
+
+fn is_number(units: i128) -> bool
+    ensures { IsTrue result ↔ IsNumber units }
+{
+    -GREATEST <= units && units <= GREATEST
+}
+
+fn is_whole(units: i128) -> bool
+    ensures { IsTrue result ↔ IsMultipleOf (10 ^ 15) units }
+{
+    units % ONE == 0
+}
+
+fn is_moment(at: i64) -> bool
+    ensures { IsTrue result ↔ IsMoment at }
+{
+    0 <= at && at <= LAST
+}
+
+fn is_midnight(at: i64) -> bool
+    ensures { IsTrue result ↔ IsMultipleOf millis_of_day at }
+{
+    at % DAY == 0
+}
+
+fn is_character(alphabet: Alphabet, code: u32) -> bool
+    ensures { IsTrue result ↔ IsCharacterOf alphabet code }
+{
+    match alphabet {
+        Alphabet::Basic => matches!(code, 0x20..=0x7E),
+        Alphabet::Latin => matches!(code, 0x20..=0x7E | 0xA0..=0xFF),
+        Alphabet::Unicode => { matches!(code, 0x20..=0x7E | 0xA0..=0xD7FF | 0xE000..=0x10_FFFF) }
+    }
+}
