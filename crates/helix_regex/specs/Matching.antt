@@ -1,5 +1,5 @@
 -- What an expression matches: regular languages as textbooks define them, over words of code points.
-use Rattle.std.specs.Prelude.{◌≡◌, ℕ, zero, suc, ◌≤◌, List, [], ◌∷◌, ◌++◌, ◌⊎◌, ◌&&◌, IsTrue, nat_le, Option, MatchOption}
+use Rattle.std.specs.Prelude.{◌≡◌, ℕ, zero, suc, ◌+◌, ◌<◌, ◌≤◌, length, take, drop, List, [], ◌∷◌, ◌++◌, ◌⊎◌, Bool, ◌&&◌, IsTrue, nat_le, Option, MatchOption}
 use Rattle.std.specs.List.{list_any}
 use Rattle.helix_regex.specs.declared.expr.Expr.{Expr, Empty, Chars, Seq', Alt', Repeat', Row_of-Expr, end_of-Expr, more_of-Expr}
 use Rattle.helix_regex.specs.declared.regex.Regex.{Regex}
@@ -45,6 +45,28 @@ abbrev mutual
   pub MatchesSome : {m : _} → Row_of-Expr m → List ℕ → Type 0
   MatchesSome end_of-Expr word = ⊥
   MatchesSome (more_of-Expr part parts) word = Matches part word ⊎ MatchesSome parts word
+
+-- the word splits into matches of the expressions of a list, in order
+abbrev pub MatchInOrder : List Expr → List ℕ → Type 0
+MatchInOrder [] word = word ≡ []
+MatchInOrder (part ∷ parts) word = (front : List ℕ) × (rest : List ℕ) × (word ≡ front ++ rest) × Matches part front × MatchInOrder parts rest
+
+-- some expression of a list matches the whole word
+abbrev pub MatchSome : List Expr → List ℕ → Type 0
+MatchSome [] word = ⊥
+MatchSome (part ∷ parts) word = Matches part word ⊎ MatchSome parts word
+
+-- cut here, the word is a word of a language and one that is joined from words of the language
+abbrev pub SplitsAt : (List ℕ → Type 0) → ℕ → Option ℕ → ℕ → List ℕ → Type 0
+SplitsAt Language least most cut word = Language (take cut word) × Repeats Language least most (drop cut word)
+
+-- the same at some place, behind at least so many characters
+abbrev pub SplitsOff : (List ℕ → Type 0) → ℕ → Option ℕ → ℕ → List ℕ → Type 0
+SplitsOff Language least most shortest word = (cut : ℕ) × (shortest ≤ cut) × (cut < length word + 1) × SplitsAt Language least most cut word
+
+-- the word begins with a match, which is the whole word where the end is bound
+abbrev pub BeginsMatch : Expr → Bool → List ℕ → Type 0
+BeginsMatch expr at_end word = (front : List ℕ) × (rest : List ℕ) × (word ≡ front ++ rest) × Matches expr front × (IsTrue at_end → rest ≡ [])
 
 -- the word has a middle that matches, at its start or its end where an anchor says so
 pub record ContainsMatch (regex : Regex) (word : List ℕ) : Type 0 where
