@@ -1,3 +1,4 @@
 pub mod Lexicographic
 pub mod Iso8601
 pub mod Checksums
+pub mod TotalOrder

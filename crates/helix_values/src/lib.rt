@@ -11,6 +11,7 @@ mod cell;
 mod cells;
 mod codes;
 mod kind;
+pub mod laws;
 mod offset;
 mod order;
 mod universe;
