@@ -2,3 +2,8 @@ pub mod Lexicographic
 pub mod Iso8601
 pub mod Checksums
 pub mod TotalOrder
+pub mod Totals
+pub mod GregorianYears
+pub mod CivilDates
+pub mod WorkingDays
+pub mod Midnights

@@ -15,11 +15,11 @@ IsOnNumberGrid level units = IsMultipleOf (10 ^ level) units
 
 -- the midnight that begins the first day of a month
 abbrev pub IsMonthStart : ℤ → Type 0
-IsMonthStart at = (year : ℕ) × (month : ℕ) × (IsDate year month 1 × (at ≡ midnight (day_number year month 1)))
+IsMonthStart at = (year : ℕ) × (month : ℕ) × IsDate year month 1 × (at ≡ midnight (day_number year month 1))
 
 -- the midnight that begins 1 January of a year
 abbrev pub IsYearStart : ℤ → Type 0
-IsYearStart at = (year : ℕ) × (IsDate year 1 1 × (at ≡ midnight (day_number year 1 1)))
+IsYearStart at = (year : ℕ) × IsDate year 1 1 × (at ≡ midnight (day_number year 1 1))
 
 -- a millisecond, a second, a minute, an hour and a day, in milliseconds
 abbrev pub units_of_time : List ℕ

@@ -1,9 +1,11 @@
 -- Where a shifted value lies: a whole number without a bound.
 use Rattle.std.specs.Prelude.{ℕ, zero, suc, ◌+◌, ◌-◌, ◌*◌, ◌/◌, ◌%◌, min, ℤ, pos, negsuc, ◌+ℤ◌, ◌*ℤ◌, Bool, ◌&&◌, ◌==◌, nat_lt, if◌then◌else◌}
+use Rattle.std.specs.Prelude.{FitsSigned}
+use Rattle.std.specs.Int.{w128}
 use Rattle.std.specs.Option.{option_map_or}
 use Rattle.helix_values.specs.declared.offset.Offset.{Offset}
 use Rattle.helix_values.specs.declared.offset.Offset.TheVariants.{Plain, Months, Years, WorkingDays}
-use Rattle.helix_values.specs.Calendar.{last_below, days_of_calendar, year_of, month_of, day_of_month, days_of_month, day_number, day_of, midnight}
+use Rattle.helix_values.specs.Calendar.{last_below, days_of_calendar, year_of, month_of, day_of_month, days_of_month, day_number, day_of, midnight, IsMoment}
 
 -- what stands for a day after 9999-12-31: the millisecond after the last moment
 abbrev pub after_all : ℤ
@@ -63,3 +65,8 @@ shifted (Plain n) value = value +ℤ n
 shifted (Months n) value = shifted_months n (day_of value)
 shifted (Years n) value = shifted_months (pos 12 *ℤ n) (day_of value)
 shifted (WorkingDays n) value = shifted_working_days n (day_of value)
+
+-- the shift of a value that the program computes: the sum fits 128 bits, or a moment is shifted
+abbrev pub IsShiftable : Offset → ℤ → Type 0
+IsShiftable (Plain n) value = FitsSigned w128 (value +ℤ n)
+IsShiftable other value = IsMoment value

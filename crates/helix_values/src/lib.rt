@@ -7,21 +7,27 @@
 //! compared with them.
 #![tactic(auto)]
 
+mod calendar;
 mod cell;
 mod cells;
 mod codes;
+mod grids;
 mod kind;
 pub mod laws;
 mod offset;
 mod order;
+mod shift;
 mod universe;
 
+pub use calendar::{Date, date_of, day_number, days_of_month};
 pub use cell::{Cell, CellRef};
 pub use cells::{Cells, Row};
 pub use codes::valid;
+pub use grids::is_on_grid;
 pub use kind::{Code, Kind};
 pub use offset::Offset;
 pub use order::{cmp_cell, cmp_cells};
+pub use shift::shifted;
 pub use universe::in_universe;
 
 #[cfg(test)]

@@ -7,6 +7,7 @@ ghost use Rattle.helix_values.specs.Grids.{IsMultipleOf};
 ghost use Rattle.helix_values.specs.Universe.{InUniverse, IsNumber};
 ghost use Rattle.helix_values.specs.View.{cell_of};
 
+use crate::calendar::{LAST_MOMENT, MILLIS_OF_DAY};
 use crate::cell::CellRef;
 use crate::codes::valid;
 use crate::kind::Kind;
@@ -17,12 +18,6 @@ const ONE: i128 = 1_000_000_000_000_000;
 
 /// The greatest number, 10^20, in units of 10^-15.
 const GREATEST: i128 = 100_000_000_000_000_000_000_000_000_000_000_000;
-
-/// The milliseconds of a day.
-const DAY: i64 = 86_400_000;
-
-/// The last millisecond of the year 9999.
-const LAST: i64 = 315_537_897_599_999;
 
 /// The most characters that a text may have.
 const LONGEST: usize = 1000;
@@ -60,13 +55,13 @@ fn is_whole(units: i128) -> bool
 fn is_moment(at: i64) -> bool
     ensures { IsTrue result ↔ IsMoment at }
 {
-    0 <= at && at <= LAST
+    0 <= at && at <= LAST_MOMENT
 }
 
 fn is_midnight(at: i64) -> bool
     ensures { IsTrue result ↔ IsMultipleOf millis_of_day at }
 {
-    at % DAY == 0
+    at % MILLIS_OF_DAY == 0
 }
 
 fn is_character(alphabet: Alphabet, code: u32) -> bool

@@ -1,0 +1,58 @@
+-- Sums of the first values of a function, and the last number that passes a test.
+use Rattle.std.proofs.Common.{◌≡◌, ℕ, zero, suc, ◌+◌, ◌-◌, ◌*◌, ◌<◌, ◌≤◌, Bool, true, false, Some, None, refl, subst, arith, add-zero}
+use Rattle.std.proofs.Common.{⊎_elim}
+use Rattle.std.proofs.lemmas.Bool.{cases_lt}
+use Rattle.helix_values.specs.Calendar.{sum_up_to, last_below}
+
+-- one value more
+pub sum_up_to-suc : (f : ℕ → ℕ) (n : ℕ) → sum_up_to f (suc n) ≡ sum_up_to f n + f (suc n)
+unfolding sum_up_to
+sum_up_to-suc f n = refl
+
+pub sum_up_to-zero : (f : ℕ → ℕ) → sum_up_to f 0 ≡ 0
+unfolding sum_up_to
+sum_up_to-zero f = refl
+
+-- more values have no smaller sum
+pub sum_up_to-more : (f : ℕ → ℕ) (n more : ℕ) → sum_up_to f n ≤ sum_up_to f (n + more)
+sum_up_to-more f n zero = rw add-zero (omega arith)
+sum_up_to-more f n (suc more) =
+    let same : n + suc more ≡ suc (n + more) = omega arith in
+    rw same (omega (arith, sum_up_to-suc f (n + more), sum_up_to-more f n more))
+
+pub sum_up_to-le : (f : ℕ → ℕ) (m n : ℕ) → m ≤ n → sum_up_to f m ≤ sum_up_to f n
+sum_up_to-le f m n below =
+    let same : m + (n - m) ≡ n = omega arith in
+    subst (λ k. sum_up_to f m ≤ sum_up_to f k) same (sum_up_to-more f m (n - m))
+
+-- values of at most b have a sum of at most b for each
+pub sum_up_to-bound : (f : ℕ → ℕ) (b : ℕ) → ((k : ℕ) → f k ≤ b) → (n : ℕ) → sum_up_to f n ≤ n * b
+sum_up_to-bound f b bound zero = omega (arith, sum_up_to-zero f)
+sum_up_to-bound f b bound (suc n) = omega (arith, sum_up_to-suc f n, bound (suc n), sum_up_to-bound f b bound n)
+
+-- the last one is k: it passes, and none above it does
+pub last_below-some : (test : ℕ → Bool) (n k : ℕ) → k < n → test k ≡ true → ((j : ℕ) → k < j → j < n → test j ≡ false) → last_below test n ≡ Some k
+unfolding last_below
+last_below-some test zero k below passes later = absurd (omega arith)
+last_below-some test (suc n) k below passes later =
+    ⊎_elim {A = k < n} {B = n ≤ k}
+    (λ before. rw (later n before (omega arith)) (last_below-some test n k before passes (λ j above within. later j above (omega arith))))
+    (λ not_before. let at : n ≡ k = omega arith in rw (at, passes) refl)
+    (cases_lt k n)
+
+-- there is none
+pub last_below-none : (test : ℕ → Bool) (n : ℕ) → ((j : ℕ) → j < n → test j ≡ false) → last_below test n ≡ None
+unfolding last_below
+last_below-none test zero fails = refl
+last_below-none test (suc n) fails = rw (fails n (omega arith)) (last_below-none test n (λ j within. fails j (omega arith)))
+
+-- the same where a loop counts the next value from 1
+pub sum_up_to-next : (f : ℕ → ℕ) (n : ℕ) → 1 ≤ n → sum_up_to f (n + 1 - 1) ≡ sum_up_to f (n - 1) + f n
+sum_up_to-next f zero from_1 = absurd (omega arith)
+sum_up_to-next f (suc n) from_1 =
+    let here : suc n + 1 - 1 ≡ suc n = omega arith in
+    let before : suc n - 1 ≡ n = omega arith in
+    rw (here, before) (sum_up_to-suc f n)
+
+-- for a loop that adds the values
+pub ruleset sums = (sum_up_to-zero, sum_up_to-next)

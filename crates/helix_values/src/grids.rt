@@ -1,0 +1,90 @@
+//! The ladders of grids, plainly.
+
+ghost use Rattle.std.specs.Prelude.{ℕ, ◌≡◌, ◌≢◌, ◌↔◌, ◌^◌, ◌<◌, IsTrue, IfSome, IfNone};
+ghost use Rattle.helix_values.specs.Calendar.{days_of_calendar, midnight};
+ghost use Rattle.helix_values.specs.Grids.{IsMultipleOf, IsOnGrid, IsOnNumberGrid, IsOnMomentGrid, IsMonthStart, IsYearStart};
+ghost use Rattle.helix_values.specs.View.{cell_of};
+
+use crate::calendar::{LAST_MOMENT, MILLIS_OF_DAY, date_of};
+use crate::cell::CellRef;
+
+/// Whether a number or a moment is on the grid of a level of its ladder.
+pub fn is_on_grid(level: u32, cell: CellRef<'_>) -> bool
+    requires { level < 16 }
+    ensures { IsTrue result ↔ IsOnGrid level (cell_of cell.entry) }
+{
+    match cell {
+        CellRef::Number(units) => is_on_number_grid(level, units),
+        CellRef::Moment(at) => is_on_moment_grid(level, at),
+        _ => false,
+    }
+}
+
+fn is_on_number_grid(level: u32, units: i128) -> bool
+    requires { level < 16 }
+    ensures { IsTrue result ↔ IsOnNumberGrid level units }
+{
+    units.unsigned_abs() % power_of_ten(level) == 0
+}
+
+fn power_of_ten(level: u32) -> u128
+    requires { level < 16 }
+    ensures value { result ≡ 10 ^ level }
+    ensures positive { 0 < result }
+{
+    10_u128.pow(level)
+}
+
+fn is_on_moment_grid(level: u32, at: i64) -> bool
+    ensures { IsTrue result ↔ IsOnMomentGrid level at }
+{
+    match level {
+        0 => true,
+        1 => is_multiple_of(1_000, at),
+        2 => is_multiple_of(60_000, at),
+        3 => is_multiple_of(3_600_000, at),
+        4 => is_multiple_of(86_400_000, at),
+        5 => is_month_start(at),
+        _ => is_year_start(at),
+    }
+}
+
+fn is_multiple_of(step: u64, at: i64) -> bool
+    requires { 0 < step }
+    ensures { IsTrue result ↔ IsMultipleOf step at }
+{
+    at.unsigned_abs() % step == 0
+}
+
+fn is_month_start(at: i64) -> bool
+    ensures { IsTrue result ↔ IsMonthStart at }
+{
+    match day_at(at) {
+        Some(day) => date_of(day).day == 1,
+        None => false,
+    }
+}
+
+fn is_year_start(at: i64) -> bool
+    ensures { IsTrue result ↔ IsYearStart at }
+{
+    match day_at(at) {
+        Some(day) => {
+            let date = date_of(day);
+            date.month == 1 && date.day == 1
+        }
+        None => false,
+    }
+}
+
+/// The day that a midnight of the calendar begins.
+fn day_at(at: i64) -> Option<u32>
+    ensures begins { IfSome result (λ day. at ≡ midnight day) }
+    ensures in_calendar { IfSome result (λ day. day < days_of_calendar) }
+    ensures none { IfNone result ((day : ℕ) → day < days_of_calendar → at ≢ midnight day) }
+{
+    if at < 0 || at > LAST_MOMENT || at % MILLIS_OF_DAY != 0 {
+        return None;
+    }
+    Some((at / MILLIS_OF_DAY) as u32)
+}
