@@ -5,6 +5,8 @@ use Rattle.helix_values.specs.Grids.{IsOnGrid}
 use Rattle.helix_values.specs.Shift.{shifted}
 use Rattle.helix_values.specs.declared.cell.Cell.{Cell}
 use Rattle.helix_values.specs.declared.cell.Cell.TheVariants as cell
+use Rattle.helix_values.specs.declared.offset.Offset.{Offset}
+use Rattle.helix_values.specs.declared.offset.Offset.TheVariants as offset
 use Rattle.helix_profile.specs.declared.relation.Compare.{Compare}
 use Rattle.helix_profile.specs.declared.relation.Compare.TheVariants as compare
 use Rattle.helix_profile.specs.declared.relation.Relation.{Relation}
@@ -46,9 +48,14 @@ Holds (test.Below bound) value = CellsCompare compare.Below value bound
 Holds (test.AtMost bound) value = CellsCompare compare.AtMost value bound
 Holds (test.OnGrid level) value = IsOnGrid level value
 
+-- how a number compares with another one and so many units; no other offset shifts a number
+abbrev pub NumbersRelated : Compare → Offset → ℤ → ℤ → Type 0
+NumbersRelated how (offset.Plain units) x y = Compares how x (shifted (offset.Plain units) y)
+NumbersRelated how other x y = ⊥
+
 -- What a relation says of the values of its left and its right field: numbers and moments are compared with the
 -- shifted one, in whole numbers without a bound, and truth values and texts are equal.
 abbrev pub Related : Relation → Cell → Cell → Type 0
-Related relation (cell.Number x) (cell.Number y) = Compares relation.compare x (shifted relation.offset y)
+Related relation (cell.Number x) (cell.Number y) = NumbersRelated relation.compare relation.offset x y
 Related relation (cell.Moment x) (cell.Moment y) = Compares relation.compare x (shifted relation.offset y)
 Related relation x y = x ≡ y

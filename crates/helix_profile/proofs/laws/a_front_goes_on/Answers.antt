@@ -1,5 +1,5 @@
 use Rattle.helix_profile.proofs.Fronts.{front_goes_on, rest_goes_on}
-use Rattle.helix_profile.proofs.TotalOrder.{row_cmp_total}
+use Rattle.helix_values.proofs.TotalOrder.{row_cmp_total}
 use Rattle.helix_profile.proofs.laws.a_front_goes_on.Goals as goal
 
 pub returns-clause-front : goal.returns-clause-front

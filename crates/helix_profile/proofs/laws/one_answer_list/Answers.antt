@@ -1,5 +1,5 @@
 use Rattle.helix_profile.proofs.Fronts.{one_answer}
-use Rattle.helix_profile.proofs.TotalOrder.{row_cmp_total}
+use Rattle.helix_values.proofs.TotalOrder.{row_cmp_total}
 use Rattle.helix_profile.proofs.laws.one_answer_list.Goals as goal
 
 pub returns : goal.returns

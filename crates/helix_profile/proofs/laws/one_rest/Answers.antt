@@ -1,5 +1,5 @@
 use Rattle.helix_profile.proofs.Fronts.{one_rest}
-use Rattle.helix_profile.proofs.TotalOrder.{row_cmp_total}
+use Rattle.helix_values.proofs.TotalOrder.{row_cmp_total}
 use Rattle.helix_profile.proofs.laws.one_rest.Goals as goal
 
 pub returns : goal.returns
