@@ -1,0 +1,5 @@
+pub mod Ascending
+pub mod CellsOfFields
+pub mod Fronts
+pub mod Powers
+pub mod Satisfying

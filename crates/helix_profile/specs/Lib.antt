@@ -1,0 +1,10 @@
+pub mod Content
+pub mod Holds
+pub mod Satisfaction
+pub mod Good
+pub mod Answer
+pub mod Fields
+pub mod Forest
+pub mod Validity
+pub mod Violation
+pub mod Width
