@@ -1,5 +1,5 @@
 -- Sums of products.
-use Rattle.std.specs.Prelude.{ℕ, ◌+◌, ◌*◌, List, [], ◌∷◌}
+use Rattle.std.specs.Prelude.{ℕ, ◌+◌, ◌*◌, List, ◌∷◌}
 
 -- each weight times the value at its place, added
 abbrev pub weighted_sum : List ℕ → List ℕ → ℕ
