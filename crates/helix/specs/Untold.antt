@@ -1,5 +1,5 @@
 -- A disk and a console that tell nothing of their contents.
-use Rattle.std.specs.Prelude.{ℕ, Bool, false, [], Option, option_map}
+use Rattle.std.specs.Prelude.{ℕ, false, [], Option, option_map}
 use Rattle.std.specs.FinMap.{empty}
 use Rattle.helix_outside.specs.Disk.{State}
 use Rattle.helix_outside.specs.Console.{Screen}
