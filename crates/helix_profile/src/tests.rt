@@ -1,43 +1,30 @@
-use crate::{Atom, Constraint, Constraints, Field, Fields, Test, copy_constraints};
-use helix_base::Text;
-use helix_values::{Cell, Kind};
-use sqlite_items::Boxed;
+mod build;
+mod null_rule;
+mod worked_rows;
+
+use crate::{Constraint, Constraints, Fields, Test, copy_constraints};
+use build::{atom, field, not, number};
+use helix_values::Kind;
 use std::test::Fail;
 
 #[test]
-fn fields_grow_and_are_copied(rt: HostRuntime) -> Result<(), Fail> {
+fn profiles_are_built_and_copied(rt: HostRuntime) -> Result<(), Fail> {
     let mut fields = Fields::new(rt.alloc());
-    for (name, nullable) in [("flag", true), ("other", false)] {
-        let name = Text::of(rt.alloc(), name)?;
-        let kind = Kind::Boolean;
-        fields.push(Field {
-            name,
-            kind,
-            nullable,
-        })?;
-    }
+    let flag = field(rt.alloc(), "flag", Kind::Boolean, true)?;
+    fields.push(flag)?;
     let copy = fields.copy(rt.alloc())?;
-    assert_eq!(rt; copy.as_slice().len(), 2);
-    assert_eq!(rt;
-        copy.as_slice()[1].name.codes(),
-        fields.as_slice()[1].name.codes()
-    );
-    Ok(())
-}
-
-#[test]
-fn constraints_grow_and_are_copied(rt: HostRuntime) -> Result<(), Fail> {
+    assert_eq!(rt; copy.as_slice().len(), 1);
     let mut constraints = Constraints::new(rt.alloc());
-    let number = Cell::Number(1_000_000_000_000_000);
-    let atom = Constraint::Atom(Atom {
-        field: 0,
-        test: Test::AtLeast(number),
-    });
-    let other = atom.copy(rt.alloc())?;
-    let atom = Boxed::new(rt.alloc(), atom)?;
-    let other = Boxed::new(rt.alloc(), other)?;
-    constraints.push(Constraint::If(atom, other, None))?;
-    let copy = copy_constraints(rt.alloc(), constraints.as_slice())?;
-    assert_eq!(rt; copy.len(), 1);
+    let bound = not(rt.alloc(), atom(0, Test::AtLeast(number(1))))?;
+    constraints.push(bound)?;
+    let copies = copy_constraints(rt.alloc(), constraints.as_slice())?;
+    assert_eq!(rt; copies.len(), 1);
+    match copies.as_slice() {
+        [Constraint::Not(part)] => match part.get() {
+            Constraint::Atom(_) => {}
+            _ => assert!(rt; false, "the part was an atom"),
+        },
+        _ => assert!(rt; false, "one negation was copied"),
+    }
     Ok(())
 }
