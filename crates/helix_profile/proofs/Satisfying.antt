@@ -2,7 +2,7 @@
 use Rattle.std.proofs.Common.{◌≡◌, ℕ, zero, suc, List, [], ◌∷◌, length, get_or, ◌⊎◌, inl, inr, ◌↔◌, Option, None, Some, Bool, true, false, not, ◌&&◌, ◌||◌, ◌==◌, IsTrue, refl, sym, ◌∙◌, ap, subst, ⊎_elim}
 use Rattle.helix_values.specs.declared.cell.Cell.{Cell}
 use Rattle.helix_values.specs.declared.cell.Cell.TheVariants as cell
-use Rattle.helix_profile.specs.Satisfaction.{Satisfies, EachSatisfied, SomeSatisfied, AllSatisfied, AnySatisfied, AreMoments, IsMomentIfAny, cell_at}
+use Rattle.helix_profile.specs.Satisfaction.{Satisfies, EachSatisfied, SomeSatisfied, AllSatisfied, AnySatisfied}
 use Rattle.helix_profile.specs.declared.constraint.Constraint.{Constraint}
 use Rattle.helix_profile.specs.declared.constraint.Constraint.TheViews.{Not, AllOf, AnyOf, If}
 
@@ -99,12 +99,6 @@ module _ (answer met unmet consequent_met otherwise_met : Bool) (constraint cond
 
 pub itself : (sign : Bool) → IsTrue sign ↔ IsTrue sign
 itself sign = ((λ t. t), (λ t. t))
-
--- a cell of a row whose moments are of the calendar
-pub moment_at : (row : List Cell) (field : ℕ) → AreMoments row → IsMomentIfAny (cell_at row field)
-moment_at [] field all = tt
-moment_at (first ∷ row) zero all = all.0
-moment_at (first ∷ row) (suc field) all = moment_at row field all.1
 
 -- the same of a part that was lent
 pub of_part : (b : Bool) (got part : Constraint) (row : List Cell) (sign : Bool) → got ≡ part → (IsTrue b ↔ Satisfies got row sign) → IsTrue b ↔ Satisfies part row sign

@@ -1,7 +1,6 @@
 -- When a row satisfies a constraint, with a sign: true is plus, and false is minus, the constraint's negation.
 -- Minus isn't the complement of plus: at null a plain test and a relation are satisfied with both signs.
 use Rattle.std.specs.Prelude.{◌≡◌, ℕ, Bool, true, false, MatchBool, List, [], ◌∷◌, ◌⊎◌, slice_index_or}
-use Rattle.helix_values.specs.Calendar.{IsMoment}
 use Rattle.helix_values.specs.declared.cell.Cell.{Cell}
 use Rattle.helix_values.specs.declared.cell.Cell.TheVariants as cell
 use Rattle.helix_profile.specs.declared.constraint.Constraint.{Constraint, Atom, Related, Not', AllOf', AnyOf', If', Row_of-Constraint, end_of-Constraint, more_of-Constraint, Held-Constraint-If-2, None', Some'}
@@ -17,16 +16,6 @@ cell_at row field = slice_index_or row field cell.Null
 abbrev pub is_null : Cell → Bool
 is_null cell.Null = true
 is_null value = false
-
--- a moment of the years 1 to 9999; what is no moment is free
-abbrev pub IsMomentIfAny : Cell → Type 0
-IsMomentIfAny (cell.Moment at) = IsMoment at
-IsMomentIfAny other = Unit {0}
-
--- the moments of a row are of the years 1 to 9999
-abbrev pub AreMoments : List Cell → Type 0
-AreMoments [] = Unit {0}
-AreMoments (cell ∷ row) = IsMomentIfAny cell × AreMoments row
 
 -- a fact, or with minus that it doesn't hold
 abbrev pub Signed : Bool → Type 0 → Type 0

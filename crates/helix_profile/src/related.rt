@@ -2,8 +2,6 @@
 
 ghost use Rattle.std.specs.Prelude.{ℤ, ◌↔◌, ◌<ℤ◌, ◌+ℤ◌, IsTrue};
 ghost use Rattle.helix_profile.specs.Holds.{Compares, NumbersRelated, Related};
-ghost use Rattle.helix_profile.specs.Satisfaction.{IsMomentIfAny};
-ghost use Rattle.helix_values.specs.Calendar.{IsMoment};
 ghost use Rattle.helix_values.specs.Shift.{shifted as shifted_value};
 ghost use Rattle.helix_values.specs.View.{cell_of};
 
@@ -13,7 +11,6 @@ use helix_values::{CellRef, Offset, shifted};
 
 /// Whether a relation holds of two values that aren't null.
 pub fn related(relation: &Relation, x: CellRef<'_>, y: CellRef<'_>) -> bool
-    requires { IsMomentIfAny (cell_of y) }
     ensures { IsTrue result ↔ Related relation.now (cell_of x.entry) (cell_of y.entry) }
 {
     match (x, y) {
@@ -37,7 +34,6 @@ fn numbers_related(compare: Compare, offset: Offset, x: i128, y: i128) -> bool
 }
 
 fn moments_related(compare: Compare, offset: Offset, x: i64, y: i64) -> bool
-    requires { IsMoment y }
     ensures { IsTrue result ↔ Compares compare x (shifted_value offset y) }
 {
     let x = i128::from(x);

@@ -1,7 +1,7 @@
 //! Whether a row satisfies a constraint, plainly. It is made for small inputs.
 
 ghost use Rattle.std.specs.Prelude.{◌≡◌, ◌↔◌, IsTrue, ◌&&◌, ◌||◌};
-ghost use Rattle.helix_profile.specs.Satisfaction.{cell_at as cell_of_field, is_null as null, UnlessNull, Signed, TestSatisfied, RelationSatisfied, Satisfies, AllSatisfied, AnySatisfied, AreMoments, IsMomentIfAny};
+ghost use Rattle.helix_profile.specs.Satisfaction.{cell_at as cell_of_field, is_null as null, UnlessNull, Signed, TestSatisfied, RelationSatisfied, Satisfies, AllSatisfied, AnySatisfied};
 ghost use Rattle.helix_profile.specs.Holds.{Holds};
 ghost use Rattle.helix_values.specs.View.{cell_of};
 
@@ -13,11 +13,9 @@ use crate::relation::Relation;
 use crate::test::Test;
 use helix_values::{Cell, CellRef};
 
-/// Whether a row satisfies a constraint, or with a false sign its negation. The moments of the row
-/// are those of the years 1 to 9999.
+/// Whether a row satisfies a constraint, or with a false sign its negation.
 #[cycle(satisfies)]
 pub fn satisfies(constraint: &Constraint, row: &[Cell], sign: bool) -> bool
-    requires { AreMoments row.now }
     ensures { IsTrue result ↔ Satisfies constraint.now row.now sign }
 {
     match constraint {
@@ -61,7 +59,6 @@ pub fn satisfies(constraint: &Constraint, row: &[Cell], sign: bool) -> bool
 /// Whether a row satisfies each constraint of a list, with a sign.
 #[cycle(satisfies)]
 pub fn all_satisfied(constraints: &[Constraint], row: &[Cell], sign: bool) -> bool
-    requires { AreMoments row.now }
     ensures { IsTrue result ↔ AllSatisfied constraints.now row.now sign }
 {
     for constraint in constraints {
@@ -74,7 +71,6 @@ pub fn all_satisfied(constraints: &[Constraint], row: &[Cell], sign: bool) -> bo
 
 #[cycle(satisfies)]
 fn any_satisfied(constraints: &[Constraint], row: &[Cell], sign: bool) -> bool
-    requires { AreMoments row.now }
     ensures { IsTrue result ↔ AnySatisfied constraints.now row.now sign }
 {
     for constraint in constraints {
@@ -113,7 +109,6 @@ fn plain_satisfied(test: &Test, cell: CellRef<'_>, sign: bool) -> bool
 
 /// Whether two cells satisfy a relation, with a sign.
 fn relation_satisfied(relation: &Relation, x: CellRef<'_>, y: CellRef<'_>, sign: bool) -> bool
-    requires { IsMomentIfAny (cell_of y) }
     ensures { IsTrue result ↔ RelationSatisfied relation.now (cell_of x.entry) (cell_of y.entry) sign }
 {
     if is_null(x) || is_null(y) {

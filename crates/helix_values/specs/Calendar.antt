@@ -1,6 +1,6 @@
 -- The proleptic Gregorian calendar (ISO 8601) for the years 1 to 9999. Days are numbered from 0 at 0001-01-01, a
 -- Monday, and moments are milliseconds from its midnight.
-use Rattle.std.specs.Prelude.{ℕ, zero, suc, ◌+◌, ◌-◌, ◌*◌, ◌/◌, ◌%◌, ◌≤◌, ℤ, pos, negsuc, ◌≤ℤ◌, Bool, not, ◌&&◌, ◌||◌, ◌==◌, nat_le, if◌then◌else◌, Option, None, Some, unwrap_or, List, [], ◌∷◌, slice_index}
+use Rattle.std.specs.Prelude.{ℕ, zero, suc, ◌+◌, ◌-◌, ◌*◌, ◌/◌, ◌%◌, min, ◌≤◌, ℤ, pos, negsuc, ◌≤ℤ◌, Bool, not, ◌&&◌, ◌||◌, ◌==◌, nat_le, if◌then◌else◌, Option, None, Some, unwrap_or, List, [], ◌∷◌, slice_index}
 
 -- f 1, f 2 and so on up to f n, added
 unfoldable pub sum_up_to : (ℕ → ℕ) → ℕ → ℕ
@@ -72,9 +72,9 @@ millis_of_day = 86400000
 abbrev pub IsMoment : ℤ → Type 0
 IsMoment at = (pos 0 ≤ℤ at) × (at ≤ℤ pos 315537897599999)
 
--- the day of a moment
+-- the day of a moment; before all of them lies the first day, after all of them the last one
 abbrev pub day_of : ℤ → ℕ
-day_of (pos millis) = millis / millis_of_day
+day_of (pos millis) = min (millis / millis_of_day) (days_of_calendar - 1)
 day_of (negsuc below) = 0
 
 -- the first millisecond of a day

@@ -5,7 +5,7 @@ use Rattle.std.specs.Int.{w128}
 use Rattle.std.specs.Option.{option_map_or}
 use Rattle.helix_values.specs.declared.offset.Offset.{Offset}
 use Rattle.helix_values.specs.declared.offset.Offset.TheVariants.{Plain, Months, Years, WorkingDays}
-use Rattle.helix_values.specs.Calendar.{last_below, days_of_calendar, year_of, month_of, day_of_month, days_of_month, day_number, day_of, midnight, IsMoment}
+use Rattle.helix_values.specs.Calendar.{last_below, days_of_calendar, year_of, month_of, day_of_month, days_of_month, day_number, day_of, midnight}
 
 -- what stands for a day after 9999-12-31: the millisecond after the last moment
 abbrev pub after_all : ℤ
@@ -66,7 +66,7 @@ shifted (Months n) value = shifted_months n (day_of value)
 shifted (Years n) value = shifted_months (pos 12 *ℤ n) (day_of value)
 shifted (WorkingDays n) value = shifted_working_days n (day_of value)
 
--- the shift of a value that the program computes: the sum fits 128 bits, or a moment is shifted
+-- the shift of a value that the program computes: a sum fits 128 bits
 abbrev pub IsShiftable : Offset → ℤ → Type 0
 IsShiftable (Plain n) value = FitsSigned w128 (value +ℤ n)
-IsShiftable other value = IsMoment value
+IsShiftable other value = Unit {0}

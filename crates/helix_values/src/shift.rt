@@ -1,7 +1,7 @@
 //! Where a shifted value lies, plainly: loops over days.
 
 ghost use Rattle.std.specs.Prelude.{◌≡◌, ◌+◌, ◌*◌, ◌^◌, ◌<◌, ◌≤◌, pos, neg_ℤ, ◌*ℤ◌, ◌≤ℤ◌};
-ghost use Rattle.helix_values.specs.Calendar.{IsMoment, last_below, days_of_calendar, day_of as day_of_moment, midnight as first_of_day};
+ghost use Rattle.helix_values.specs.Calendar.{last_below, days_of_calendar, day_of as day_of_moment, midnight as first_of_day};
 ghost use Rattle.helix_values.specs.Shift.{IsShiftable, shifted as shifted_value, shifted_months as month_shift, midnight_in_month as first_in_month, day_in_month as same_day_in_month, shifted_working_days as working_day_shift, is_working_day as working_day, working_days_before, is_working_day_after, is_working_day_ahead};
 
 use crate::calendar::{DAYS, MILLIS_OF_DAY, date_of, day_number, days_of_month};
@@ -27,11 +27,13 @@ pub fn shifted(offset: Offset, value: i128) -> i128
 }
 
 fn day_of(value: i128) -> u32
-    requires { IsMoment value }
     ensures value { result ≡ day_of_moment value }
     ensures in_calendar { result < days_of_calendar }
 {
-    (value / i128::from(MILLIS_OF_DAY)) as u32
+    if value < 0 {
+        return 0;
+    }
+    (value / i128::from(MILLIS_OF_DAY)).min(i128::from(DAYS - 1)) as u32
 }
 
 fn midnight(day: u32) -> i64

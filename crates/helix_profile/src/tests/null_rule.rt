@@ -2,7 +2,7 @@ use crate::tests::build::{
     FIRST_OF_MARCH, atom, characters, day, if_else, if_then, in_numbers, not, number, pair,
     related, spelt, text,
 };
-use crate::{Compare, Constraint, Test, are_moments, satisfies};
+use crate::{Compare, Constraint, Test, satisfies};
 use helix_base::Memory;
 use helix_regex::Expr;
 use helix_values::{Cell, Row};
@@ -112,7 +112,6 @@ fn null_satisfies_a_plain_test_and_its_negation(rt: HostRuntime) -> Result<(), F
             let constraint = form(rt.alloc(), name)?;
             let row = row_of(rt.alloc(), nulls)?;
             let row = row.as_slice();
-            assert!(rt; are_moments(row));
             let signs = (
                 satisfies(&constraint, row, true),
                 satisfies(&constraint, row, false),
@@ -129,7 +128,6 @@ fn null_at_either_end_satisfies_a_relation_and_its_negation(rt: HostRuntime) -> 
         let relation = form(rt.alloc(), "lessThanField")?;
         let row = row_of(rt.alloc(), nulls)?;
         let row = row.as_slice();
-        assert!(rt; are_moments(row));
         assert!(rt; satisfies(&relation, row, true), "{nulls}");
         assert!(rt; satisfies(&relation, row, false), "{nulls}");
     }

@@ -128,6 +128,8 @@ fn shifts_leave_the_calendar(rt: HostRuntime) {
         assert_eq!(rt; shifted(Offset::WorkingDays(n), 0), -1, "{n} days");
     }
     assert_eq!(rt; shifted(Offset::Plain(-5), 3), -2);
+    assert_eq!(rt; shifted(Offset::Months(0), -1), 0);
+    assert_eq!(rt; shifted(Offset::Months(0), after_all), last);
 }
 
 #[test]

@@ -1,11 +1,8 @@
 use Rattle.std.proofs.Common.{true, false, Some, None, subst, sym, ap, ◌∙◌}
-use Rattle.helix_profile.specs.Satisfaction.{AllSatisfied, AnySatisfied, IsMomentIfAny}
+use Rattle.helix_profile.specs.Satisfaction.{AllSatisfied, AnySatisfied}
 use Rattle.helix_profile.specs.declared.constraint.Constraint.TheViews.{AllOf, AnyOf, If}
-use Rattle.helix_profile.proofs.Satisfying.{AllOf-plus, AllOf-minus, AnyOf-plus, AnyOf-minus, not_decides, parts_decide, if_decides, itself, of_part, moment_at}
+use Rattle.helix_profile.proofs.Satisfying.{AllOf-plus, AllOf-minus, AnyOf-plus, AnyOf-minus, not_decides, parts_decide, if_decides, itself, of_part}
 use Rattle.helix_profile.proofs.satisfaction.+satisfies.Goals as goal
-
-pub satisfies-relation_satisfied-requires : goal.satisfies-relation_satisfied-requires
-satisfies-relation_satisfied-requires t c = subst IsMomentIfAny (sym c.cell_at-in-Related-2.ensures) (moment_at c.args.row.now c.in-Related.relation.right c.requires)
 
 pub satisfies-returns-in-Not : goal.satisfies-returns-in-Not
 satisfies-returns-in-Not t c = not_decides _ _ c.in-Not.negated _ c.args.row.now c.args.sign c.in-Not.is c.get.ensures c.satisfies.ensures
