@@ -1,5 +1,7 @@
 mod build;
+mod made;
 mod null_rule;
+mod trade;
 mod worked_rows;
 
 use crate::{Constraint, Constraints, Fields, Test, copy_constraints};
