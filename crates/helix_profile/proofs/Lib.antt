@@ -1,4 +1,5 @@
 pub mod Ascending
+pub mod Examples
 pub mod Fronts
 pub mod OneField
 pub mod Powers
