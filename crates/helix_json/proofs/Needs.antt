@@ -1,9 +1,8 @@
 -- Which token may come next is known without the values.
-use Rattle.std.proofs.Common.{◌≡◌, ◌≢◌, ℕ, ◌-◌, Bool, true, false, Option, Some, None, List, [], ◌∷◌, ◌++◌, length, refl, sym, ◌∙◌, ap, subst}
+use Rattle.std.proofs.Common.{◌≡◌, Option, Some, None, List, [], ◌∷◌, ◌++◌, refl, sym, ap, subst}
 use Rattle.helix_json.specs.declared.value.Json.{Json}
 use Rattle.helix_json.specs.declared.token.Token.{Token}
 use Rattle.helix_json.specs.declared.token.Token.TheVariants as token
-use Rattle.helix_json.specs.declared.need.Need.{Need}
 use Rattle.helix_json.specs.declared.need.Need.TheVariants as need
 use Rattle.helix_json.specs.declared.need.Container.{Container}
 use Rattle.helix_json.specs.declared.need.Container.TheVariants as container

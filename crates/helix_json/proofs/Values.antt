@@ -1,12 +1,12 @@
 -- The numbers of a value that a text spells are JSON numbers.
-use Rattle.std.proofs.Common.{◌≡◌, ℕ, true, false, Bool, List, [], ◌∷◌, ◌++◌, subst, sym, append_assoc}
+use Rattle.std.proofs.Common.{ℕ, List, [], ◌∷◌, ◌++◌}
 use Rattle.helix_json.specs.declared.value.Json.{Json, Row_of-Json, Row_of-Member}
 use Rattle.helix_json.specs.declared.value.Json as json
 use Rattle.helix_json.specs.declared.token.Token.{Token}
 use Rattle.helix_json.specs.declared.token.Token.TheVariants as token
 use Rattle.helix_json.specs.Numbers.{IsNumber}
 use Rattle.helix_json.specs.Tokens.{tokens, first_item, next_item, first_member, next_member}
-use Rattle.helix_json.specs.Text.{SpellsToken, Cuts, SpellsText}
+use Rattle.helix_json.specs.Text.{SpellsToken, Cuts}
 use Rattle.helix_json.specs.Broken.{SpellsJson}
 use Rattle.helix_json.specs.Values.{HasNumbers, ItemsHaveNumbers, MembersHaveNumbers}
 

@@ -1,17 +1,12 @@
 -- Known values of the definitions that no function computes.
-use Rattle.std.proofs.Common.{◌≡◌, ℕ, List, [], ◌∷◌, Option, None, Some, Bool, true, false, inl, inr, refl}
+use Rattle.std.proofs.Common.{◌≡◌, ℕ, [], ◌∷◌, None, true, false, inl, inr, refl}
 use Rattle.helix_values.specs.declared.offset.Offset.TheVariants as offset
-use Rattle.helix_values.specs.declared.kind.Kind.TheVariants as kind
-use Rattle.std.specs.Prelude.{ℤ, pos}
-use Rattle.helix_profile.specs.Content.{Content}
-use Rattle.helix_profile.specs.Fields.{fields_of, relations_of}
+use Rattle.std.specs.Prelude.{pos}
 use Rattle.helix_profile.specs.Forest.{IsCycle}
-use Rattle.helix_profile.specs.Validity.{IsValidProfile}
 use Rattle.helix_profile.specs.Violation.{negated_at}
 use Rattle.helix_profile.specs.Width.{width, complement_width, is_chained, widest_group}
 use Rattle.helix_profile.specs.declared.constraint.Constraint.{Constraint, Atom, Related}
-use Rattle.helix_profile.specs.declared.constraint.Constraint.TheViews.{Not, AllOf, AnyOf, If}
-use Rattle.helix_profile.specs.declared.field.Field.{Field}
+use Rattle.helix_profile.specs.declared.constraint.Constraint.TheViews.{Not, AnyOf, If}
 use Rattle.helix_profile.specs.declared.relation.Compare.TheVariants as compare
 use Rattle.helix_profile.specs.declared.relation.Relation.{Relation}
 use Rattle.helix_profile.specs.declared.test.Test.TheVariants as test
@@ -48,8 +43,8 @@ negated_condition_width = refl
 -- three relations round three fields are a cycle
 round : IsCycle (above 0 1 ∷ above 1 2 ∷ above 2 0 ∷ []) (0 ∷ 1 ∷ 2 ∷ [])
 round = (
-    (((λ e. cc e), ((λ e. cc e), tt)), (((λ e. cc e), tt), (tt, tt))),
-    (inl (refl, refl), (inr (inr (inl (refl, refl))), inr (inr (inr (inr (inl (refl, refl))))))),
+  (((λ e. cc e), ((λ e. cc e), tt)), (((λ e. cc e), tt), (tt, tt))),
+  (inl (refl, refl), (inr (inr (inl (refl, refl))), inr (inr (inr (inr (inl (refl, refl))))))),
 )
 
 -- the constraint of number 2 is negated, and one that isn't there changes nothing

@@ -1,8 +1,8 @@
 -- A profile of one field with a short name and no constraints is valid.
-use Rattle.std.proofs.Common.{◌≡◌, ◌≢◌, ℕ, zero, suc, ◌<◌, ◌≤◌, List, [], ◌∷◌, length, ◌++◌, ◌∙◌, arith, refl, sym, subst}
+use Rattle.std.proofs.Common.{◌≡◌, zero, suc, List, [], ◌∷◌, ◌++◌, ◌∙◌, arith, sym, subst}
 use Rattle.std.proofs.lemmas.Str.{chars-IsAscii}
 use Rattle.std.specs.Str.{chars, IsAscii}
-use Rattle.helix_profile.specs.Forest.{IsCycle, IsForest}
+use Rattle.helix_profile.specs.Forest.{IsForest}
 use Rattle.helix_profile.specs.Validity.{IsName, IsValidProfile}
 use Rattle.helix_profile.specs.declared.constraint.Constraint.{Constraint}
 use Rattle.helix_profile.specs.declared.field.Field.{Field}
@@ -27,11 +27,11 @@ one_field_is_valid fields before constraints field are fresh is none =
     (subst (λ bs. IsValidProfile (record { fields = bs ++ (field ∷ []); constraints = constraints })) (sym fresh)
     (subst (λ cs. IsValidProfile (record { fields = field ∷ []; constraints = cs })) (sym none)
     (record {
-        some_field = omega arith;
-        few_fields = omega arith;
-        names = (subst IsName (sym (is ∙ chars-IsAscii (97 ∷ []) ascii_a)) named_a, tt);
-        different_names = (tt, tt);
-        few_constraints = omega arith;
-        constraints_fit = tt;
-        no_cycle = no_lines;
+      some_field = omega arith;
+      few_fields = omega arith;
+      names = (subst IsName (sym (is ∙ chars-IsAscii (97 ∷ []) ascii_a)) named_a, tt);
+      different_names = (tt, tt);
+      few_constraints = omega arith;
+      constraints_fit = tt;
+      no_cycle = no_lines;
     })))

@@ -1,8 +1,7 @@
 -- What satisfies a constraint, said of its parts, and what the plain program answers of them.
-use Rattle.std.proofs.Common.{◌≡◌, ℕ, zero, suc, List, [], ◌∷◌, length, get_or, ◌⊎◌, inl, inr, ◌↔◌, Option, None, Some, Bool, true, false, not, ◌&&◌, ◌||◌, ◌==◌, IsTrue, refl, sym, ◌∙◌, ap, subst, ⊎_elim}
+use Rattle.std.proofs.Common.{◌≡◌, List, [], ◌∷◌, ◌⊎◌, inl, inr, ◌↔◌, Option, None, Some, Bool, true, false, not, ◌&&◌, ◌||◌, IsTrue, refl, sym, ap, subst, ⊎_elim}
 use Rattle.helix_values.specs.declared.cell.Cell.{Cell}
-use Rattle.helix_values.specs.declared.cell.Cell.TheVariants as cell
-use Rattle.helix_profile.specs.Satisfaction.{Satisfies, EachSatisfied, SomeSatisfied, AllSatisfied, AnySatisfied}
+use Rattle.helix_profile.specs.Satisfaction.{Satisfies, AllSatisfied, AnySatisfied}
 use Rattle.helix_profile.specs.declared.constraint.Constraint.{Constraint}
 use Rattle.helix_profile.specs.declared.constraint.Constraint.TheViews.{Not, AllOf, AnyOf, If}
 

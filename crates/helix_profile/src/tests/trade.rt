@@ -111,7 +111,11 @@ fn constraints_of(alloc: Global) -> Result<Constraints, Memory> {
 /// A trade, changed in one way from one that is good.
 fn trade(alloc: Global, change: &str) -> Result<Row, Memory> {
     let settle = if change == "settled too early" { 1 } else { 2 };
-    let (price, quantity) = if change == "too many at this price" { (100_001, 101) } else { (5, 1) };
+    let (price, quantity) = if change == "too many at this price" {
+        (100_001, 101)
+    } else {
+        (5, 1)
+    };
     let mut row = Row::new(alloc);
     let identifier = text(alloc, "TR000000")?;
     row.push(identifier)?;

@@ -1,4 +1,4 @@
-use Rattle.std.proofs.Common.{true, false, Some, None, subst, sym, ap, ◌∙◌}
+use Rattle.std.proofs.Common.{true, false, Some, None, ap, ◌∙◌}
 use Rattle.helix_profile.specs.Satisfaction.{AllSatisfied, AnySatisfied}
 use Rattle.helix_profile.specs.declared.constraint.Constraint.TheViews.{AllOf, AnyOf, If}
 use Rattle.helix_profile.proofs.Satisfying.{AllOf-plus, AllOf-minus, AnyOf-plus, AnyOf-minus, not_decides, parts_decide, if_decides, itself, of_part}
