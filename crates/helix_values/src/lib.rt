@@ -26,7 +26,7 @@ pub use codes::valid;
 pub use grids::is_on_grid;
 pub use kind::{Code, Kind};
 pub use offset::Offset;
-pub use order::{cmp_cell, cmp_cells};
+pub use order::{cmp_cell, cmp_row};
 pub use shift::shifted;
 pub use universe::in_universe;
 

@@ -34,7 +34,7 @@ fn cmp_text(a: &[u32], b: &[u32]) -> Ordering
 }
 
 /// Compares two rows of the same fields, by the first field in which they differ.
-pub fn cmp_cells(a: &[Cell], b: &[Cell]) -> Ordering
+pub fn cmp_row(a: &[Cell], b: &[Cell]) -> Ordering
     requires { AreComparableRows a.now b.now }
     ensures { result ≡ row_cmp a.now b.now }
 {

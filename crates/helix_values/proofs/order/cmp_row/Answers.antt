@@ -1,7 +1,7 @@
 use Rattle.std.proofs.Common.{arith, sym, ◌∙◌}
 use Rattle.helix_values.specs.declared.cell.Cell.TheVariants.{Null}
 use Rattle.helix_values.proofs.Lexicographic.{comparable-length, differ_here, equal_here, none_differ}
-use Rattle.helix_values.proofs.order.cmp_cells.Goals as goal
+use Rattle.helix_values.proofs.order.cmp_row.Goals as goal
 
 pub returns-in_default : goal.returns-in_default
 returns-in_default c =
