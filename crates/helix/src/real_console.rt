@@ -1,5 +1,6 @@
 //! Standard output as a console.
 
+ghost use Rattle.std.specs.Prelude.{◌≡◌};
 ghost use Rattle.helix.specs.Untold.{untold_screen};
 
 use crate::counting::fault;
@@ -16,7 +17,9 @@ pub struct RealConsole<'a, R: Print> {
 
 impl<'a, R: Print> RealConsole<'a, R> {
     /// Nothing has failed.
-    pub fn open(rt: &'a R) -> RealConsole<'a, R> {
+    pub fn open(rt: &'a R) -> RealConsole<'a, R>
+        ensures { result.faults ≡ 0 }
+    {
         RealConsole { rt, faults: 0 }
     }
 }

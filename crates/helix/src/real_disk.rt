@@ -1,6 +1,6 @@
 //! The files of the system as a disk.
 
-ghost use Rattle.std.specs.Prelude.{ℕ};
+ghost use Rattle.std.specs.Prelude.{◌≡◌, ℕ, None};
 ghost use Rattle.helix_outside.specs.Disk.{State};
 ghost use Rattle.helix.specs.Untold.{untold};
 
@@ -24,12 +24,19 @@ pub struct RealDisk<'a, R: Files> {
 impl<'a, R: Files> RealDisk<'a, R> {
     /// How many reads failed so far, and how many writes.
     #[cfg(test)]
-    pub fn faults(&self) -> (u64, u64) {
+    pub fn faults(&self) -> (u64, u64)
+        ensures { result ≡ (self.now.read_faults, self.now.write_faults) }
+    {
         (self.read_faults, self.write_faults)
     }
 
     /// Nothing is open, and nothing has failed.
-    pub fn open(rt: &'a R) -> RealDisk<'a, R> {
+    pub fn open(rt: &'a R) -> RealDisk<'a, R>
+        ensures input { result.input ≡ None }
+        ensures output { result.output ≡ None }
+        ensures read_faults { result.read_faults ≡ 0 }
+        ensures write_faults { result.write_faults ≡ 0 }
+    {
         RealDisk {
             rt,
             input: None,
