@@ -33,7 +33,7 @@ mark_code mark.CloseObject = 125
 mark_code mark.Comma = 44
 mark_code mark.Colon = 58
 
-blank_class : (c : ℕ) → IsTrue (is_blank c) → class c ≡ class_is.Blank
+pub blank_class : (c : ℕ) → IsTrue (is_blank c) → class c ≡ class_is.Blank
 blank_class c e = cond-true _ _ _ e
 
 blank_cases : (c : ℕ) → IsTrue (is_blank c) → kind_of c ≡ kind.Other

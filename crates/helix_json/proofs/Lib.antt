@@ -10,5 +10,14 @@ pub mod OneValue
 pub mod StringBack
 pub mod Sound
 pub mod Viable
+pub mod Leaving
+pub mod Standing
+pub mod Placing
+pub mod Tracking
+pub mod StringSafe
+pub mod Lexemes
+pub mod Holding
+pub mod HoldingWords
+pub mod Finishing
 pub mod Needs
 pub mod Values

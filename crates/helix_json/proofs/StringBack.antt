@@ -7,12 +7,12 @@ use Rattle.helix_json.specs.declared.string.StringState.TheVariants as state
 use Rattle.helix_json.specs.declared.string.StringMove.{StringMove}
 use Rattle.helix_json.specs.declared.string.StringMove.TheVariants as move
 use Rattle.helix_json.specs.Text.{SpellsUnit, IsHigh, IsLow, How, itself, by_letter, by_unit, by_pair, SpellsAs, escaped}
-use Rattle.helix_json.specs.StringSteps.{string_step, plain_step, backslash_step, give_or_refuse, unit_step, low_step}
+use Rattle.helix_json.specs.StringSteps.{UnitFine, LowFine, Fine, string_step, plain_step, backslash_step, give_or_refuse, unit_step, low_step}
 use Rattle.helix_json.proofs.Decimal.{le_or_lt}
 use Rattle.helix_json.proofs.NumberGrammar.{true_not_false}
 use Rattle.helix_json.proofs.Decides.{both_of, choose}
 
-two_true : (a b : Bool) → a ≡ true → b ≡ true → (a && b) ≡ true
+pub two_true : (a b : Bool) → a ≡ true → b ≡ true → (a && b) ≡ true
 two_true true b e f = f
 two_true false b e f = cc
 
@@ -26,33 +26,6 @@ left_true false b e = cc
 right_true : (a b : Bool) → b ≡ true → (a || b) ≡ true
 right_true true b e = refl
 right_true false b e = e
-
--- digits of a first unit that can still be no low surrogate, and of a low one
-pub record UnitFine (n v : ℕ) : Type 0 where
-  pub few : n ≤ 3
-  pub zero_is : n ≡ 0 → v ≡ 0
-  pub one_is : n ≡ 1 → v < 16
-  pub two_is : n ≡ 2 → v < 256
-  pub two_low : n ≡ 2 → v < 0xE0 → v < 0xDC
-  pub three_is : n ≡ 3 → v < 4096
-  pub three_low : n ≡ 3 → v < 0xE00 → v < 0xDC0
-
-pub record LowFine (n v : ℕ) : Type 0 where
-  pub few : n ≤ 3
-  pub zero_is : n ≡ 0 → v ≡ 0
-  pub one_is : n ≡ 1 → v ≡ 13
-  pub two_from : n ≡ 2 → 0xDC ≤ v
-  pub two_to : n ≡ 2 → v < 0xE0
-  pub three_from : n ≡ 3 → 0xDC0 ≤ v
-  pub three_to : n ≡ 3 → v < 0xE00
-
-abbrev pub Fine : StringState → Type 0
-Fine state.Plain = Unit {0}
-Fine state.Backslash = Unit {0}
-Fine (state.Unit n v) = UnitFine n v
-Fine (state.High high) = IsHigh high
-Fine (state.HighBackslash high) = IsHigh high
-Fine (state.Low high n v) = IsHigh high × LowFine n v
 
 -- hexadecimal digits behind a value
 abbrev pub HexFrom : ℕ → List ℕ → ℕ → Type 0
@@ -144,7 +117,7 @@ low_cases P high n v h refuse go give =
     (λ few. go (leb-false 16 h small) (λ z. thirteen n h first z) (λ o. twelve n h second o) (ltb-true n 3 few))
     (λ many. give (leb-false 16 h small) (ltb-false n 3 many)))))
 
-unit_fine : (n v h : ℕ) → UnitFine n v → h < 16 → (n ≡ 1 → v ≡ 13 → h < 12) → n < 3 → UnitFine (n + 1) (v * 16 + h)
+pub unit_fine : (n v h : ℕ) → UnitFine n v → h < 16 → (n ≡ 1 → v ≡ 13 → h < 12) → n < 3 → UnitFine (n + 1) (v * 16 + h)
 unit_fine n v h fine small low few = record {
   few = omega arith;
   zero_is = λ e. absurd (omega arith);
@@ -155,7 +128,7 @@ unit_fine n v h fine small low few = record {
   three_low = λ e below. let z : v < 0xDC = fine.two_low (omega arith) (omega arith) in omega arith;
 }
 
-low_fine : (n v h : ℕ) → LowFine n v → h < 16 → (n ≡ 0 → h ≡ 13) → (n ≡ 1 → 12 ≤ h) → n < 3 → LowFine (n + 1) (v * 16 + h)
+pub low_fine : (n v h : ℕ) → LowFine n v → h < 16 → (n ≡ 0 → h ≡ 13) → (n ≡ 1 → 12 ≤ h) → n < 3 → LowFine (n + 1) (v * 16 + h)
 low_fine n v h fine small first second few = record {
   few = omega arith;
   zero_is = λ e. absurd (omega arith);
@@ -175,11 +148,11 @@ low_start = record { few = omega arith; zero_is = λ e. refl; one_is = λ e. abs
 four : (ds : List ℕ) (c n : ℕ) → length ds ≡ n → 3 ≤ n → n ≤ 3 → length (ds ++ c ∷ []) ≡ 4
 four ds c n e many few = omega (arith, length_push ds c n e)
 
-no_low : (n v h : ℕ) → UnitFine n v → 3 ≤ n → h < 16 → ¬ (IsLow (v * 16 + h))
+pub no_low : (n v h : ℕ) → UnitFine n v → 3 ≤ n → h < 16 → ¬ (IsLow (v * 16 + h))
 no_low n v h fine many small (from, to) = let three : n ≡ 3 = omega (arith, fine.few) in
     let f : v < 0xDC0 = fine.three_low three (omega arith) in omega arith
 
-low_last_is : (n v h : ℕ) → LowFine n v → 3 ≤ n → h < 16 → IsLow (v * 16 + h)
+pub low_last_is : (n v h : ℕ) → LowFine n v → 3 ≤ n → h < 16 → IsLow (v * 16 + h)
 low_last_is n v h fine many small = let three : n ≡ 3 = omega (arith, fine.few) in
     let f : 0xDC0 ≤ v = fine.three_from three in let g : v < 0xE00 = fine.three_to three in (omega arith, omega arith)
 

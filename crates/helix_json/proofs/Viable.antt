@@ -1,5 +1,5 @@
 -- What has been read and not refused can end in a value; what is refused begins none.
-use Rattle.std.proofs.Common.{◌≡◌, ◌≢◌, ℕ, ◌+◌, ◌≤◌, ◌*◌, zero, suc, Bool, true, false, ◌==◌, ◌&&◌, nat_le, nat_lt, cond, Option, Some, None, is_some, List, [], ◌∷◌, ◌++◌, codes, refl, sym, ◌∙◌, ap, subst, arith, append_assoc}
+use Rattle.std.proofs.Common.{◌≡◌, ℕ, ◌+◌, ◌≤◌, ◌*◌, zero, suc, Bool, true, false, ◌==◌, ◌&&◌, nat_le, nat_lt, cond, Option, Some, None, is_some, List, [], ◌∷◌, ◌++◌, codes, refl, sym, ◌∙◌, ap, subst, arith, append_assoc}
 use Rattle.std.proofs.lemmas.Bool.{eq-eqb, cond-true}
 use Rattle.helix_json.specs.declared.value.Json.{Json}
 use Rattle.helix_json.specs.declared.token.Token.{Token}
@@ -12,17 +12,16 @@ use Rattle.helix_json.specs.declared.string.StringMove.TheVariants as move
 use Rattle.helix_json.specs.declared.digits.NumberState.{NumberState}
 use Rattle.helix_json.specs.declared.digits.NumberState.TheVariants as number
 use Rattle.helix_json.specs.NumberSteps.{accepts}
-use Rattle.helix_json.specs.StringSteps.{string_step}
 use Rattle.helix_json.specs.Text.{SpellsText}
 use Rattle.helix_json.specs.Tokens.{tokens}
 use Rattle.helix_json.specs.Broken.{IsViable}
 use Rattle.helix_json.specs.Lexer.{Lex, between, in_string, in_number, in_word, lex, lex_step, on_emission, prepend, word_token, word_move}
 use Rattle.helix_json.specs.Machine.{Reading, value, first_item, first_key, key, colon, after, Frame, in_list, in_object, run, step, on_some}
-use Rattle.helix_json.specs.Scan.{may_go}
+use Rattle.helix_json.specs.Scan.{may_go, FineLex, HasRead}
 use Rattle.helix_json.proofs.Machine.{run_tokens, run-append, tokens_from, closers, finish, finishes}
 use Rattle.helix_json.proofs.Strings.{prepend_nil, lex_go, lex_give}
 use Rattle.helix_json.proofs.Lexing.{EndsNumber, number_read, lexes_value, number_leads}
-use Rattle.helix_json.proofs.StringBack.{Fine}
+use Rattle.helix_json.specs.StringSteps.{Fine, string_step}
 use Rattle.helix_json.proofs.Sound.{sound, Goes, some_is}
 
 -- each string can end
@@ -99,13 +98,13 @@ number_end number.Mark = (48 ∷ [], refl)
 number_end number.Sign = (48 ∷ [], refl)
 number_end number.Exponent = ([], refl)
 
-word_step : (w : Word) (d e : ℕ) (es : List ℕ) → word_move w d (d ∷ e ∷ es) ≡ Some ([], in_word w (e ∷ es))
+pub word_step : (w : Word) (d e : ℕ) (es : List ℕ) → word_move w d (d ∷ e ∷ es) ≡ Some ([], in_word w (e ∷ es))
 word_step w d e es = cond-true (d == d) _ _ (eq-eqb d d refl)
 
 word_last : (w : Word) (d : ℕ) → word_move w d (d ∷ []) ≡ Some (word_token w ∷ [], between)
 word_last w d = cond-true (d == d) _ _ (eq-eqb d d refl)
 
-word_read : (w : Word) (d : ℕ) (ds r : List ℕ) → lex (d ∷ ds ++ r) (in_word w (d ∷ ds)) ≡ prepend (word_token w ∷ []) (lex r between)
+pub word_read : (w : Word) (d : ℕ) (ds r : List ℕ) → lex (d ∷ ds ++ r) (in_word w (d ∷ ds)) ≡ prepend (word_token w ∷ []) (lex r between)
 unfolding lex
 word_read w d [] r = ap (λ m. on_emission m (λ l. lex r l)) (word_last w d)
 word_read w d (e ∷ ds) r = ap (λ m. on_emission m (λ l. lex (e ∷ ds ++ r) l)) (word_step w d e ds) ∙ (prepend_nil _ ∙ word_read w e ds r)
@@ -147,7 +146,7 @@ closing_ends [] = tt
 closing_ends (in_list xs ∷ fs) = refl
 closing_ends (in_object ms k ∷ fs) = refl
 
-is_some_some : (o : Option Reading) → is_some o ≡ true → (q : Reading) × (o ≡ Some q)
+pub is_some_some : (o : Option Reading) → is_some o ≡ true → (q : Reading) × (o ≡ Some q)
 is_some_some None e = cc
 is_some_some (Some q) e = (q, refl)
 
@@ -156,7 +155,7 @@ not_some None e = refl
 not_some (Some q) e = cc
 
 -- which string it is, and which number, does not matter
-string_same : (r : Reading) (s t : List ℕ) → is_some (step r (token.Str s)) ≡ is_some (step r (token.Str t))
+pub string_same : (r : Reading) (s t : List ℕ) → is_some (step r (token.Str s)) ≡ is_some (step r (token.Str t))
 string_same (value fs) s t = refl
 string_same (first_item fs) s t = refl
 string_same (first_key fs) s t = refl
@@ -166,7 +165,7 @@ string_same (after x []) s t = refl
 string_same (after x (in_list xs ∷ fs)) s t = refl
 string_same (after x (in_object ms k ∷ fs)) s t = refl
 
-number_same : (r : Reading) (s t : List ℕ) → is_some (step r (token.Number s)) ≡ is_some (step r (token.Number t))
+pub number_same : (r : Reading) (s t : List ℕ) → is_some (step r (token.Number s)) ≡ is_some (step r (token.Number t))
 number_same (value fs) s t = refl
 number_same (first_item fs) s t = refl
 number_same (first_key fs) s t = refl
@@ -176,30 +175,17 @@ number_same (after x []) s t = refl
 number_same (after x (in_list xs ∷ fs)) s t = refl
 number_same (after x (in_object ms k ∷ fs)) s t = refl
 
-abbrev pub FineLex : Lex → Type 0
-FineLex between = Unit {0}
-FineLex (in_string sofar s) = Fine s
-FineLex (in_number sofar n) = Unit {0}
-FineLex (in_word w ws) = ws ≢ []
-
--- a front of a text that is read and not refused
-pub record Scanned (front : List ℕ) (ds : List Token) (r : Reading) (l : Lex) : Type 0 where
-  pub reads : (rest : List ℕ) → lex (front ++ rest) between ≡ prepend ds (lex rest l)
-  pub leads : run (value []) ds ≡ Some r
-  pub goes : may_go r l ≡ true
-  pub fine : FineLex l
-
 prepend_start : (o : Option (List Token)) → o ≡ prepend [] o
 prepend_start o = sym (prepend_nil o)
 
-pub scanned_start : Scanned [] [] (value []) between
-scanned_start = record { reads = λ rest. prepend_start (lex rest between); leads = refl; goes = refl; fine = tt }
+pub read_start : HasRead [] [] (value []) between
+read_start = record { reads = λ rest. prepend_start (lex rest between); leads = refl; goes = refl; fine = tt }
 
 -- the token that is being read can end, and then the value
 abbrev Ends : Reading → Lex → Type 0
 Ends r l = (q : Reading) × (ts : List Token) × (run r ts ≡ Some q) × (text : List ℕ) × (lex text l ≡ Some (ts ++ finish q))
 
-run_one : (r q : Reading) (t : Token) → step r t ≡ Some q → run r (t ∷ []) ≡ Some q
+pub run_one : (r q : Reading) (t : Token) → step r t ≡ Some q → run r (t ∷ []) ≡ Some q
 run_one r q t e = ap (λ o. on_some o (λ next. run next [])) e
 
 ends_after : (q : Reading) (x : Json) (fs : List Frame) → after x fs ≡ q → EndsNumber (finish_text q)
@@ -237,36 +223,40 @@ ends r (in_word w (d ∷ ds)) go fine =
     )
 
 -- tokens that lead to a value, read from a text, make it spell the value
-spells_from : (text : List ℕ) (ts : List Token) (v : Json) → lex text between ≡ Some ts → run (value []) ts ≡ Some (after v []) → SpellsText text v
+pub spells_from : (text : List ℕ) (ts : List Token) (v : Json) → lex text between ≡ Some ts → run (value []) ts ≡ Some (after v []) → SpellsText text v
 spells_from text ts v reads leads = subst (Goes between text) (sym (tokens_from ts v leads)) (sound text between ts reads)
 
-pub viable : (front : List ℕ) (ds : List Token) (r : Reading) (l : Lex) → Scanned front ds r l → IsViable front
-viable front ds r l scanned =
-    let (q, ts, go, text, reads) = ends r l scanned.goes scanned.fine in
+pub viable : (front : List ℕ) (ds : List Token) (r : Reading) (l : Lex) → HasRead front ds r l → IsViable front
+viable front ds r l has =
+    let (q, ts, go, text, reads) = ends r l has.goes has.fine in
     let (v, finished) = finishes q in (
       text,
       v,
       spells_from (front ++ text) (ds ++ (ts ++ finish q)) v
-          (scanned.reads text ∙ ap (prepend ds) reads)
-          (run-append ds (ts ++ finish q) (value []) r scanned.leads ∙ (run-append ts (finish q) r q go ∙ finished)),
+          (has.reads text ∙ ap (prepend ds) reads)
+          (run-append ds (ts ++ finish q) (value []) r has.leads ∙ (run-append ts (finish q) r q go ∙ finished)),
     )
 
-prepend_both : (a b : List Token) (o : Option (List Token)) → prepend a (prepend b o) ≡ prepend (a ++ b) o
+pub prepend_both : (a b : List Token) (o : Option (List Token)) → prepend a (prepend b o) ≡ prepend (a ++ b) o
 prepend_both a b None = refl
 prepend_both a b (Some us) = ap (λ l. Some l) (sym (append_assoc a b us))
 
-unprepend_all : (ds : List Token) (o : Option (List Token)) (ts : List Token) → prepend ds o ≡ Some ts → (us : List Token) × (o ≡ Some us) × (ts ≡ ds ++ us)
+pub unprepend_all : (ds : List Token) (o : Option (List Token)) (ts : List Token) → prepend ds o ≡ Some ts → (us : List Token) × (o ≡ Some us) × (ts ≡ ds ++ us)
 unprepend_all ds None ts e = cc
 unprepend_all ds (Some us) ts e = (us, refl, sym (some_is (ds ++ us) ts e))
 
+-- a text that goes on with a character is read as tokens, and on from that character
+abbrev pub ReadsOn : List ℕ → ℕ → List Token → Lex → Type 0
+ReadsOn front c ds l = (rest : List ℕ) → lex (front ++ c ∷ rest) between ≡ prepend ds (lex (c ∷ rest) l)
+
 -- one more character
-pub scanned_more : (front : List ℕ) (ds ts : List Token) (r q : Reading) (l next : Lex) (c : ℕ) → Scanned front ds r l
-    → lex_step l c ≡ Some (ts, next) → run r ts ≡ Some q → may_go q next ≡ true → FineLex next → Scanned (front ++ c ∷ []) (ds ++ ts) q next
+pub read_more : (front : List ℕ) (ds ts : List Token) (r q : Reading) (l next : Lex) (c : ℕ) → ReadsOn front c ds l → run (value []) ds ≡ Some r
+    → lex_step l c ≡ Some (ts, next) → run r ts ≡ Some q → may_go q next ≡ true → FineLex next → HasRead (front ++ c ∷ []) (ds ++ ts) q next
 unfolding lex
-scanned_more front ds ts r q l next c scanned is go may fine = record {
+read_more front ds ts r q l next c reads leads is go may fine = record {
   reads = λ rest. ap (λ t. lex t between) (append_assoc front (c ∷ []) rest)
-      ∙ (scanned.reads (c ∷ rest) ∙ (ap (λ e. prepend ds (on_emission e (λ k. lex rest k))) is ∙ prepend_both ds ts (lex rest next)));
-  leads = run-append ds ts (value []) r scanned.leads ∙ go;
+      ∙ (reads rest ∙ (ap (λ e. prepend ds (on_emission e (λ k. lex rest k))) is ∙ prepend_both ds ts (lex rest next)));
+  leads = run-append ds ts (value []) r leads ∙ go;
   goes = may;
   fine = fine;
 }
@@ -299,24 +289,24 @@ no_going q (in_word w ws) rest us may e =
     let (more, others, split, front, cuts) = sound rest (in_word w ws) us e in
     ap (run q) front ∙ ap (λ o. on_some o (λ k. run k others)) (not_some (step q (word_token w)) may)
 
--- what the tokens of a value are, read on from a scanned front
-value_tokens : (front : List ℕ) (ds : List Token) (r : Reading) (l : Lex) → Scanned front ds r l → (rest : List ℕ) (v : Json) → SpellsText (front ++ rest) v
-    → (us : List Token) × (lex rest l ≡ Some us) × (run r us ≡ Some (after v []))
-value_tokens front ds r l scanned rest v spells =
-    let (us, is, front_is) = unprepend_all ds (lex rest l) (tokens v) (sym (scanned.reads rest) ∙ lexes_value (front ++ rest) v spells) in
-    (us, is, sym (run-append ds us (value []) r scanned.leads) ∙ (ap (run (value [])) (sym front_is) ∙ run_tokens v))
+-- what the tokens of a value are, read on behind some of them
+pub value_tokens : (text rest : List ℕ) (ds : List Token) (r : Reading) (l : Lex) → lex text between ≡ prepend ds (lex rest l) → run (value []) ds ≡ Some r
+    → (v : Json) → SpellsText text v → (us : List Token) × (lex rest l ≡ Some us) × (run r us ≡ Some (after v []))
+value_tokens text rest ds r l reads leads v spells =
+    let (us, is, front_is) = unprepend_all ds (lex rest l) (tokens v) (sym reads ∙ lexes_value text v spells) in
+    (us, is, sym (run-append ds us (value []) r leads) ∙ (ap (run (value [])) (sym front_is) ∙ run_tokens v))
 
-pub refuses_all : (front : List ℕ) (ds : List Token) (r : Reading) (l : Lex) (c : ℕ) → Scanned front ds r l → Refuses r l c
+pub refuses_all : (front : List ℕ) (ds : List Token) (r : Reading) (l : Lex) (c : ℕ) → ReadsOn front c ds l → run (value []) ds ≡ Some r → Refuses r l c
     → (rest : List ℕ) (v : Json) → ¬ (SpellsText (front ++ c ∷ rest) v)
 unfolding lex
-refuses_all front ds r l c scanned (no_character is) rest v spells =
-    let (us, e, go) = value_tokens front ds r l scanned (c ∷ rest) v spells in
+refuses_all front ds r l c reads leads (no_character is) rest v spells =
+    let (us, e, go) = value_tokens (front ++ c ∷ rest) (c ∷ rest) ds r l (reads rest) leads v spells in
     let f : None ≡ Some us = sym (ap (λ m. on_emission m (λ k. lex rest k)) is) ∙ e in cc
-refuses_all front ds r l c scanned (no_tokens ts next is none) rest v spells =
-    let (us, e, go) = value_tokens front ds r l scanned (c ∷ rest) v spells in
+refuses_all front ds r l c reads leads (no_tokens ts next is none) rest v spells =
+    let (us, e, go) = value_tokens (front ++ c ∷ rest) (c ∷ rest) ds r l (reads rest) leads v spells in
     let (others, f, g) = unprepend_all ts (lex rest next) us (sym (ap (λ m. on_emission m (λ k. lex rest k)) is) ∙ e) in
     let h : None ≡ Some (after v []) = sym (none_more ts others r none) ∙ (ap (run r) (sym g) ∙ go) in cc
-refuses_all front ds r l c scanned (no_token ts q next is led may) rest v spells =
-    let (us, e, go) = value_tokens front ds r l scanned (c ∷ rest) v spells in
+refuses_all front ds r l c reads leads (no_token ts q next is led may) rest v spells =
+    let (us, e, go) = value_tokens (front ++ c ∷ rest) (c ∷ rest) ds r l (reads rest) leads v spells in
     let (others, f, g) = unprepend_all ts (lex rest next) us (sym (ap (λ m. on_emission m (λ k. lex rest k)) is) ∙ e) in
     let h : None ≡ Some (after v []) = sym (no_going q next rest others may f) ∙ (sym (run-append ts others r q led) ∙ (ap (run r) (sym g) ∙ go)) in cc

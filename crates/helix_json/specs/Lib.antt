@@ -8,5 +8,8 @@ pub mod Machine
 pub mod StringSteps
 pub mod Lexer
 pub mod Scan
+pub mod Progress
+pub mod Lexeme
+pub mod Scanned
 pub mod Need
 pub mod Values

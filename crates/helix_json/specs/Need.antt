@@ -1,5 +1,5 @@
 -- Which token may come next, whatever the values are. Only the crate's private clauses cite it.
-use Rattle.std.specs.Prelude.{Option, Some, None, List, [], ◌∷◌, ◌++◌}
+use Rattle.std.specs.Prelude.{◌≡◌, Option, Some, None, List, [], ◌∷◌, ◌++◌}
 use Rattle.helix_json.specs.declared.token.Token.{Token}
 use Rattle.helix_json.specs.declared.token.Token.TheVariants as token
 use Rattle.helix_json.specs.declared.need.Need.{Need}
@@ -75,3 +75,8 @@ abbrev pub innermost : List Frame → Option Container
 innermost [] = None
 innermost (in_list xs ∷ fs) = Some container.List
 innermost (in_object ms k ∷ fs) = Some container.Object
+
+-- the last container, if there is one
+abbrev pub IsLast : List Container → Option Container → Type 0
+IsLast cs None = cs ≡ []
+IsLast cs (Some c) = (outer : List Container) × (cs ≡ outer ++ c ∷ [])

@@ -1,9 +1,9 @@
 //! The grammar of strings, one character after the other.
 
-ghost use Rattle.std.specs.Prelude.{◌≡◌, Some, None};
+ghost use Rattle.std.specs.Prelude.{◌≡◌, ◌≤◌, ◌<◌, Some, None};
 ghost use Rattle.std.specs.Char.{digit_value};
-ghost use Rattle.helix_json.specs.Text.{escaped};
-ghost use Rattle.helix_json.specs.StringSteps.{string_step, unit_step, low_step};
+ghost use Rattle.helix_json.specs.Text.{IsHigh, escaped};
+ghost use Rattle.helix_json.specs.StringSteps.{Fine, LowFine, plain_step, backslash_step, string_step, unit_step, low_step};
 
 /// What of a character has been read: nothing, the backslash, `\u` and digits of the first unit, a
 /// high surrogate, the backslash behind it, `\u` and digits of the second unit.
@@ -72,5 +72,120 @@ fn escape(letter: u32) -> Option<u32>
         Some(9)
     } else {
         None
+    }
+}
+
+/// A character where one of the string, its end or a backslash may stand.
+fn plain_move(code: u32) -> StringMove
+    ensures { result ≡ plain_step code }
+{
+    if code == 34 {
+        StringMove::Close
+    } else if code == 92 {
+        StringMove::Go(StringState::Backslash)
+    } else if code < 32 {
+        StringMove::Refuse
+    } else {
+        StringMove::Give(code)
+    }
+}
+
+/// A character behind a backslash.
+fn backslash_move(code: u32) -> StringMove
+    ensures { result ≡ backslash_step code }
+{
+    if code == 117 {
+        return StringMove::Go(StringState::Unit {
+            digits: 0,
+            value: 0,
+        });
+    }
+    match escape(code) {
+        Some(escaped) => StringMove::Give(escaped),
+        None => StringMove::Refuse,
+    }
+}
+
+/// One more digit of a unit that is no second one of a pair.
+fn unit_move(digits: u32, value: u32, digit: u32) -> StringMove
+    requires few { digits ≤ 3 }
+    requires small { value < 4096 }
+    ensures { result ≡ unit_step digits value digit }
+{
+    if 16 <= digit {
+        return StringMove::Refuse;
+    }
+    if digits == 1 && value == 13 && 12 <= digit {
+        return StringMove::Refuse;
+    }
+    let more = value * 16 + digit;
+    if digits < 3 {
+        StringMove::Go(StringState::Unit {
+            digits: digits + 1,
+            value: more,
+        })
+    } else if 0xD800 <= more && more < 0xDC00 {
+        StringMove::Go(StringState::High { high: more })
+    } else {
+        StringMove::Give(more)
+    }
+}
+
+/// One more digit of the second unit of a pair.
+fn low_move(high: u32, digits: u32, value: u32, digit: u32) -> StringMove
+    requires is_high { IsHigh high }
+    requires fine { LowFine digits value }
+    ensures { result ≡ low_step high digits value digit }
+{
+    if 16 <= digit {
+        return StringMove::Refuse;
+    }
+    if digits == 0 && digit != 13 || digits == 1 && digit < 12 {
+        return StringMove::Refuse;
+    }
+    let more = value * 16 + digit;
+    if digits < 3 {
+        StringMove::Go(StringState::Low {
+            high,
+            digits: digits + 1,
+            value: more,
+        })
+    } else {
+        StringMove::Give(0x10000 + (high - 0xD800) * 0x400 + (more - 0xDC00))
+    }
+}
+
+/// What one more character does to a string.
+pub fn string_move(state: StringState, code: u32) -> StringMove
+    requires { Fine state }
+    ensures { result ≡ string_step state code }
+{
+    match state {
+        StringState::Plain => plain_move(code),
+        StringState::Backslash => backslash_move(code),
+        StringState::Unit { digits, value } => unit_move(digits, value, hex_value(code)),
+        StringState::High { high } => {
+            if code == 92 {
+                StringMove::Go(StringState::HighBackslash { high })
+            } else {
+                StringMove::Refuse
+            }
+        }
+        StringState::HighBackslash { high } => {
+            if code == 117 {
+                StringMove::Go(StringState::Low {
+                    high,
+                    digits: 0,
+                    value: 0,
+                })
+            } else {
+                StringMove::Refuse
+            }
+        }
+        StringState::Low {
+            high,
+            digits,
+            value,
+        } => low_move(high, digits, value, hex_value(code)),
     }
 }

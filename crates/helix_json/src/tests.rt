@@ -1,3 +1,5 @@
+mod scan;
+
 use crate::{is_number, number_units, numbers_of_a_value, one_value};
 use helix_base::Text;
 use std::test::Fail;

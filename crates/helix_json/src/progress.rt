@@ -1,0 +1,61 @@
+//! What of a text has been read, between two tokens.
+
+ghost use Rattle.std.specs.Prelude.{◌≡◌, ◌↔◌, [], ◌∷◌, ◌++◌, IsTrue, OnOk};
+ghost use Rattle.helix_json.specs.Progress.{IsWhole};
+ghost use Rattle.helix_json.specs.declared.need.Need.TheVariants as need_is;
+
+use crate::need::Need;
+use crate::nest::Nest;
+use crate::token::Token;
+use helix_base::Memory;
+use std::alloc::Global;
+
+/// The tokens so far with their places, and what may come behind them.
+#[derive(Debug, Drop)]
+pub struct Progress {
+    pub tokens: Vec<Token>,
+    pub places: Vec<usize>,
+    pub nest: Nest,
+}
+
+/// What a token or a blank does: reading goes on at a place, or so many characters are the longest
+/// front with which a text of the grammar begins.
+#[derive(Clone, Copy, Debug)]
+pub enum Step {
+    On(usize),
+    Leaves(usize),
+}
+
+impl Progress {
+    /// Nothing has been read.
+    pub fn new(alloc: Global) -> Progress
+        ensures tokens { result.tokens.items ≡ [] }
+        ensures places { result.places.items ≡ [] }
+        ensures need { result.nest.need ≡ need_is.Value }
+        ensures containers { result.nest.containers.items ≡ [] }
+    {
+        Progress {
+            tokens: Vec::new(alloc),
+            places: Vec::new(alloc),
+            nest: Nest::new(alloc),
+        }
+    }
+
+    /// Appends a token that begins at that place.
+    pub fn push(&mut self, token: Token, place: usize) -> Result<(), Memory>
+        ensures tokens { OnOk result (self.new.tokens.items ≡ self.old.tokens.items ++ token ∷ []) }
+        ensures places { OnOk result (self.new.places.items ≡ self.old.places.items ++ place ∷ []) }
+        ensures nest { OnOk result (self.new.nest ≡ self.old.nest) }
+    {
+        self.tokens.push(token)?;
+        self.places.push(place)?;
+        Ok(())
+    }
+
+    /// Whether the tokens are those of a value.
+    pub fn is_whole(&self) -> bool
+        ensures { IsTrue result ↔ IsWhole self.now.nest }
+    {
+        matches!(self.nest.need, Need::After) && self.nest.containers.is_empty()
+    }
+}
