@@ -19,7 +19,8 @@ use Rattle.helix_json.specs.Progress.{Allows, Stands, Holds}
 use Rattle.helix_json.specs.Lexeme.{ReadsString}
 use Rattle.helix_json.proofs.Decides.{bool_false}
 use Rattle.helix_json.proofs.Lexing.{blank_class}
-use Rattle.helix_json.proofs.Viable.{run_one, no_tokens, no_token}
+use Rattle.helix_json.proofs.Endings.{run_one}
+use Rattle.helix_json.proofs.Viable.{no_tokens, no_token}
 use Rattle.helix_json.proofs.Standing.{stands_from, goes_on, begins, refused}
 use Rattle.helix_json.proofs.Placing.{begins_there, all_begin-push}
 

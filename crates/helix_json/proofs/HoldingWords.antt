@@ -22,7 +22,8 @@ use Rattle.helix_json.specs.Lexeme.{ReadsNumber, ReadsLetters}
 use Rattle.helix_json.proofs.Decides.{differ}
 use Rattle.helix_json.proofs.Decimal.{le_or_lt}
 use Rattle.helix_json.proofs.Machine.{run-append}
-use Rattle.helix_json.proofs.Viable.{run_one, word_step, word_read, prepend_both, no_character}
+use Rattle.helix_json.proofs.Endings.{run_one, word_step, word_read}
+use Rattle.helix_json.proofs.Viable.{prepend_both, no_character}
 use Rattle.helix_json.proofs.Strings.{prepend_nil}
 use Rattle.helix_json.proofs.Leaving.{token_leaves, token_ends}
 use Rattle.helix_json.proofs.Standing.{stands_from, stands_number, refused}

@@ -17,7 +17,8 @@ use Rattle.helix_json.specs.Lexeme.{ReadsNumber}
 use Rattle.helix_base.proofs.Scalars.{scalar_at}
 use Rattle.std.specs.Str.{all_scalars}
 use Rattle.helix_json.proofs.StringSafe.{go_fine}
-use Rattle.helix_json.proofs.Viable.{read_more, run_one, no_character}
+use Rattle.helix_json.proofs.Endings.{run_one}
+use Rattle.helix_json.proofs.Viable.{read_more, no_character}
 use Rattle.helix_json.proofs.Leaving.{token_leaves, token_ends}
 
 module _ (text : List ℕ) (at : ℕ) (ds : List Token) (r : Reading) (l : Lex) (within : at < length text) (has : HasRead (take at text) ds r l) where

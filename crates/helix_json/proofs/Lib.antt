@@ -9,6 +9,7 @@ pub mod Lexing
 pub mod OneValue
 pub mod StringBack
 pub mod Sound
+pub mod Endings
 pub mod Viable
 pub mod Leaving
 pub mod Standing

@@ -12,7 +12,8 @@ use Rattle.helix_json.specs.Scan.{may_go, FineLex, HasRead}
 use Rattle.helix_json.specs.Progress.{Stands}
 use Rattle.helix_json.proofs.Machine.{run-append}
 use Rattle.helix_json.proofs.Lexing.{with_front}
-use Rattle.helix_json.proofs.Viable.{viable, Refuses, refuses_all, read_more, read_start, run_one, prepend_both}
+use Rattle.helix_json.proofs.Endings.{run_one}
+use Rattle.helix_json.proofs.Viable.{viable, Refuses, refuses_all, read_more, read_start, prepend_both}
 use Rattle.helix_json.proofs.Leaving.{leaves_at}
 
 pub stands_from : (text : List ℕ) (at : ℕ) (ds : List Token) (r : Reading) → at ≤ length text → HasRead (take at text) ds r between → Stands text at ds r
