@@ -1,0 +1,83 @@
+//! A deterministic automaton.
+
+ghost use Rattle.std.specs.Prelude.{◌≡◌, ◌↔◌, ◌<◌, ◌≤◌, IsTrue, IfOk, OnOk, IsErrOf, All, length, slice_get, Some};
+ghost use Rattle.helix_automata.specs.Automaton.{Automaton, Accepts, Leads, arcs_of};
+ghost use Rattle.helix_automata.specs.Shape.{HasShape, IsCharacter};
+
+use crate::arc::Arc;
+use crate::lists::{Flags, Moves};
+use crate::shape::are_rows;
+use helix_base::Memory;
+use std::alloc::Global;
+use std::marker::Model;
+
+/// Why moves and flags make no automaton.
+#[derive(Clone, Copy, Debug, PartialEq, Eq)]
+pub enum DfaFault {
+    /// There is no state, there are 2^32 or more, there are more or fewer flags than states, the arcs of a state don't
+    /// stand in order and apart, leave a character out or have one that holds none, or an arc leads to no state.
+    Shape,
+    /// An allocation failed.
+    Memory,
+}
+
+/// A deterministic automaton over the characters of Unicode. Contracts see its moves and its accepting states.
+#[derive(Debug, Drop)]
+pub struct Dfa {
+    moves: Moves,
+    flags: Flags,
+}
+
+impl Model for Dfa {
+    ghost use Rattle.helix_automata.specs.Automaton.{Automaton};
+    ghost use Rattle.helix_automata.specs.Shape.{HasShape};
+
+    ghost Value = { Automaton };
+
+    ghost view = { λ dfa. record { moves = dfa.moves; accepting = dfa.flags } };
+
+    ghost invariant = { λ dfa. HasShape (record { moves = dfa.moves; accepting = dfa.flags }) };
+}
+
+impl Dfa {
+    /// The automaton with these moves and accepting states; state 0 is the start.
+    pub fn build(moves: Moves, accepting: Flags) -> Result<Dfa, DfaFault>
+        ensures ok { IfOk result (λ dfa. (dfa.moves ≡ moves) × (dfa.accepting ≡ accepting)) }
+        ensures shape { IsErrOf result DfaFault.Shape ↔ (HasShape (record { moves = moves; accepting = accepting }) → ⊥) }
+    {
+        let states = moves.as_slice().len();
+        if states == 0 || states > u32::MAX as usize || accepting.as_slice().len() != states {
+            return Err(DfaFault::Shape);
+        }
+        if !are_rows(moves.as_slice(), states) {
+            return Err(DfaFault::Shape);
+        }
+        Ok(Dfa {
+            moves,
+            flags: accepting,
+        })
+    }
+
+    /// How many states there are.
+    pub fn states(&self) -> u32
+        ensures { result ≡ length self.now.moves }
+    {
+        self.moves.as_slice().len() as u32
+    }
+
+    /// The arcs of a state, in order.
+    pub fn arcs(&self, state: u32) -> &[Arc]
+        requires { state < length self.now.moves }
+        ensures { result.now ≡ arcs_of self.now state }
+    {
+        self.moves.as_slice()[state as usize].as_slice()
+    }
+
+    /// Whether a state accepts.
+    pub fn accepting(&self, state: u32) -> bool
+        requires { state < length self.now.moves }
+        ensures { slice_get self.now.accepting state ≡ Some result }
+    {
+        self.flags.as_slice()[state as usize]
+    }
+}
