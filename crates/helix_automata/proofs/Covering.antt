@@ -17,7 +17,7 @@ both false b e = cc
 joined : (a b : Bool) → a ≡ true → b ≡ true → (a && b) ≡ true
 joined a b e f = cc
 
-not_true : (b : Bool) → (b ≡ true → ⊥) → b ≡ false
+pub not_true : (b : Bool) → (b ≡ true → ⊥) → b ≡ false
 not_true true f = absurd (f refl)
 not_true false f = refl
 
@@ -53,7 +53,7 @@ none_behind arc (next ∷ arcs) code order used low =
     target_on code next arcs (not_below code next (omega (arith, order.0)))
     ∙ none_behind next arcs code order.1 (All-tail HasCharacter next arcs used) (omega (arith, order.0, right))
 
-none_some : {X : Type 0} (x : X) → None ≡ Some x → ⊥
+pub none_some : {X : Type 0} (x : X) → None ≡ Some x → ⊥
 none_some x e = cc
 
 -- what is left of the arcs leads on from what is left of the characters
@@ -72,7 +72,7 @@ pub record Left (arcs rest : List Arc) (wanted : Option ℕ) : Type 0 where
   pub order : AreInOrder rest
   pub same : Covers bound rest ↔ Covers 0 arcs
 
-order_tail : (arc : Arc) (arcs : List Arc) → AreInOrder (arc ∷ arcs) → AreInOrder arcs
+pub order_tail : (arc : Arc) (arcs : List Arc) → AreInOrder (arc ∷ arcs) → AreInOrder arcs
 order_tail arc [] order = tt
 order_tail arc (next ∷ arcs) order = order.1
 

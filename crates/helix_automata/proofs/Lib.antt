@@ -1,1 +1,5 @@
 pub mod Covering
+pub mod Finding
+pub mod Joins
+pub mod Behind
+pub mod PairRows

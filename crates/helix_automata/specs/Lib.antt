@@ -1,2 +1,4 @@
 pub mod Automaton
 pub mod Shape
+pub mod Joining
+pub mod Product

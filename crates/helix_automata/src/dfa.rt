@@ -2,10 +2,11 @@
 
 ghost use Rattle.std.specs.Prelude.{◌≡◌, ◌↔◌, ◌<◌, ◌≤◌, IsTrue, IfOk, OnOk, IsErrOf, All, length, slice_get, Some};
 ghost use Rattle.helix_automata.specs.Automaton.{Automaton, Accepts, Leads, arcs_of};
-ghost use Rattle.helix_automata.specs.Shape.{HasShape, IsCharacter};
+ghost use Rattle.helix_automata.specs.Shape.{AreArcs, HasShape, IsCharacter};
 
 use crate::arc::Arc;
 use crate::lists::{Flags, Moves};
+use crate::moving::arc_at;
 use crate::shape::are_rows;
 use helix_base::Memory;
 use std::alloc::Global;
@@ -60,7 +61,8 @@ impl Dfa {
 
     /// How many states there are.
     pub fn states(&self) -> u32
-        ensures { result ≡ length self.now.moves }
+        ensures number { result ≡ length self.now.moves }
+        ensures some { 0 < result }
     {
         self.moves.as_slice().len() as u32
     }
@@ -68,7 +70,8 @@ impl Dfa {
     /// The arcs of a state, in order.
     pub fn arcs(&self, state: u32) -> &[Arc]
         requires { state < length self.now.moves }
-        ensures { result.now ≡ arcs_of self.now state }
+        ensures value { result.now ≡ arcs_of self.now state }
+        ensures shape { AreArcs (length self.now.moves) result.now }
     {
         self.moves.as_slice()[state as usize].as_slice()
     }
@@ -79,5 +82,29 @@ impl Dfa {
         ensures { slice_get self.now.accepting state ≡ Some result }
     {
         self.flags.as_slice()[state as usize]
+    }
+
+    /// The state to which a character leads.
+    pub fn step(&self, state: u32, code: u32) -> u32
+        requires state { state < length self.now.moves }
+        requires character { IsCharacter code }
+        ensures within { result < length self.now.moves }
+        ensures leads { Leads self.now state code result }
+    {
+        let arcs = self.arcs(state);
+        arcs[arc_at(arcs, code)].to
+    }
+
+    /// Whether the automaton accepts a word.
+    pub fn accepts(&self, word: &[u32]) -> bool
+        requires { All IsCharacter word.now }
+        ensures { IsTrue result ↔ Accepts self.now word.now }
+    {
+        let _moves = &self.moves;
+        let mut state = 0;
+        for code in word {
+            state = self.step(state, *code);
+        }
+        self.accepting(state)
     }
 }

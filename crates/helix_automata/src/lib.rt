@@ -8,6 +8,9 @@
 mod arc;
 mod dfa;
 mod lists;
+mod moving;
+mod pairs;
+mod product;
 mod shape;
 
 pub use arc::Arc;

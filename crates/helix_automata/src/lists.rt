@@ -1,6 +1,7 @@
 //! The lists that an automaton is made of.
 
 ghost use Rattle.std.specs.Prelude.{◌≡◌, [], ◌∷◌, ◌++◌, IfOk, OnErr, OnOk};
+ghost use Rattle.helix_automata.specs.Joining.{joined};
 
 use crate::arc::Arc;
 use helix_base::Memory;
@@ -37,6 +38,20 @@ impl Arcs {
         ensures ok { OnOk result (self.new ≡ self.old ++ item ∷ []) }
         ensures err { OnErr result (self.new ≡ self.old) }
     {
+        self.items.push(item)?;
+        Ok(())
+    }
+
+    /// Appends one arc, or joins it with the last one where both lead to one state.
+    pub fn join(&mut self, item: Arc) -> Result<(), Memory>
+        ensures ok { OnOk result (self.new ≡ joined self.old item) }
+        ensures err { OnErr result (self.new ≡ self.old) }
+    {
+        let count = self.items.as_slice().len();
+        if count > 0 && self.items[count - 1].to == item.to {
+            self.items[count - 1].last = item.last;
+            return Ok(());
+        }
         self.items.push(item)?;
         Ok(())
     }

@@ -8,7 +8,7 @@ use crate::lists::Arcs;
 use helix_base::Alphabet;
 
 /// The least character above a code.
-fn character_above(code: u32) -> Option<u32>
+pub fn character_above(code: u32) -> Option<u32>
     ensures { IsNextCharacter (code + 1) result }
 {
     if code < u32::MAX {
