@@ -1,19 +1,16 @@
 -- The next character is held by the arc at hand or by the one behind it.
-use Rattle.std.proofs.Common.{◌≡◌, ℕ, ◌+◌, ◌<◌, ◌≤◌, zero, suc, true, false, nat_lt, Some, List, length, get_or, ◌⊎◌, inl, inr, ap, arith, refl}
+use Rattle.std.proofs.Common.{◌≡◌, ℕ, ◌+◌, ◌<◌, ◌≤◌, true, false, List, length, get_or, inl, inr, ap, arith}
 use Rattle.std.proofs.lemmas.Bool.{lt-ltb, le-ltb, ltb-true, cases_lt}
 use Rattle.std.proofs.lemmas.List.{get_or_default}
-use Rattle.std.specs.Prelude.{IsTrue}
-use Rattle.std.specs.List.{All}
 use Rattle.std.specs.List.Sorted.{IsPartitionPoint}
 use Rattle.helix_base.specs.Alphabet.{ranges_of}
 use Rattle.helix_base.specs.declared.alphabet.Alphabet.TheVariants.{Unicode}
 use Rattle.helix_base.specs.Ranges.{IsLeastFrom}
 use Rattle.helix_automata.specs.declared.arc.Arc.{Arc}
-use Rattle.helix_automata.specs.Automaton.{holds, target}
-use Rattle.helix_automata.specs.Shape.{AreInOrder, HasCharacter, AreArcs}
+use Rattle.helix_automata.specs.Shape.{AreArcs}
 use Rattle.helix_automata.specs.Product.{IsUpTo, HoldsAt}
 use Rattle.helix_automata.proofs.Covering.{held}
-use Rattle.helix_automata.proofs.Finding.{IsArcAt, ends_below, ends_rise, begins_above, found}
+use Rattle.helix_automata.proofs.Finding.{ends_below, ends_rise, begins_above, found}
 
 last_same : (arcs : List Arc) (k : ℕ) (d e : Arc) → k < length arcs → (get_or arcs k d).last ≡ (get_or arcs k e).last
 last_same arcs k d e within = ap (λ arc. arc.last) (get_or_default arcs k d e within)

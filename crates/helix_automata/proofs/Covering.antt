@@ -1,5 +1,5 @@
 -- Arcs in order lead on from all characters, each arc from one, where one after the other holds the least character that is left.
-use Rattle.std.proofs.Common.{◌≡◌, ◌↔◌, ◌⊎◌, inl, inr, ℕ, ◌+◌, ◌<◌, ◌≤◌, suc, Bool, true, false, Option, Some, None, IfSome, IfNone, List, [], ◌∷◌, All, is_some, not, length, ◌&&◌, nat_le, arith, refl, sym, ◌∙◌, subst}
+use Rattle.std.proofs.Common.{◌≡◌, ◌↔◌, ◌⊎◌, inl, inr, ℕ, ◌+◌, ◌<◌, ◌≤◌, Bool, true, false, Option, Some, None, List, [], ◌∷◌, All, is_some, not, length, ◌&&◌, nat_le, arith, refl, sym, ◌∙◌, subst}
 use Rattle.std.proofs.lemmas.Bool.{leb-true, le-leb, cond-true, cond-false, cases_lt}
 use Rattle.std.proofs.lemmas.List.Elements.{All-cons, All-head, All-tail, All-nil}
 use Rattle.std.specs.Prelude.{IsTrue}
@@ -8,7 +8,7 @@ use Rattle.helix_base.specs.declared.alphabet.Alphabet.TheVariants.{Unicode}
 use Rattle.helix_base.specs.Ranges.{IsLeastFrom, EndsBelow}
 use Rattle.helix_automata.specs.declared.arc.Arc.{Arc}
 use Rattle.helix_automata.specs.Automaton.{holds, target}
-use Rattle.helix_automata.specs.Shape.{IsCharacter, IsNextCharacter, AreInOrder, HasCharacter, LeadOn}
+use Rattle.helix_automata.specs.Shape.{IsNextCharacter, AreInOrder, HasCharacter, LeadOn}
 
 both : (a b : Bool) → (a && b) ≡ true → (a ≡ true) × (b ≡ true)
 both true b e = (refl, e)

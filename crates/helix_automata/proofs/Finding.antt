@@ -1,14 +1,13 @@
 -- The arc that holds a character is the first that doesn't end below it.
-use Rattle.std.proofs.Common.{◌≡◌, ℕ, ◌+◌, ◌<◌, ◌≤◌, zero, suc, Bool, true, false, nat_lt, Option, Some, None, List, [], ◌∷◌, All, length, get_or, arith, refl, sym, ◌∙◌, subst}
+use Rattle.std.proofs.Common.{◌≡◌, ℕ, ◌+◌, ◌<◌, ◌≤◌, zero, suc, Bool, true, false, nat_lt, Some, List, [], ◌∷◌, All, length, get_or, arith, refl, sym, ◌∙◌, subst}
 use Rattle.std.proofs.lemmas.Bool.{ltb-true, ltb-false}
 use Rattle.std.proofs.lemmas.List.Elements.{All-head, All-tail}
 use Rattle.std.proofs.lemmas.List.Sorted.{IsNonDecreasingBy-from_all_adjacent}
-use Rattle.std.specs.List.{AllAdjacentBelow}
 use Rattle.std.specs.List.Sorted.{IsNonDecreasingBy, IsPartitionPoint}
 use Rattle.helix_automata.specs.declared.arc.Arc.{Arc}
 use Rattle.helix_automata.specs.Automaton.{holds, target}
 use Rattle.helix_automata.specs.Shape.{AreInOrder, HasCharacter}
-use Rattle.helix_automata.proofs.Covering.{held_within, not_above, not_below, not_turned, target_here, target_on, none_behind, none_some, order_tail}
+use Rattle.helix_automata.proofs.Covering.{not_above, not_turned, target_here, target_on, none_behind, none_some, order_tail}
 
 -- the ends of arcs rise
 rising : (arcs : List Arc) (k : ℕ) (d : Arc) → AreInOrder arcs → All HasCharacter arcs → suc k < length arcs → (get_or arcs k d).last ≤ (get_or arcs (suc k) d).last
@@ -61,5 +60,16 @@ found (arc ∷ arcs) code (suc at) next order used leads point =
     let above : arc.last < code = ltb-true arc.last code (point.0 0 arc (omega arith) (omega arith)) in
     let on = target_on code arc arcs (not_above code arc above) in
     let rest = found arcs code at next (order_tail arc arcs order) (All-tail HasCharacter arc arcs used) (sym on ∙ leads)
-        ((λ k d low high. point.0 (suc k) d (omega arith) (omega arith)), (λ k d low high. point.1 (suc k) d (omega arith) (omega arith))) in
+    ((λ k d low high. point.0 (suc k) d (omega arith) (omega arith)), (λ k d low high. point.1 (suc k) d (omega arith) (omega arith))) in
     record { within = omega (arith, rest.within); held = λ d. rest.held d; leads = λ d. on ∙ rest.leads d }
+
+-- where arcs lead is one of the states that they name
+pub leads_within : (states : ℕ) (arcs : List Arc) (code next : ℕ) → All (λ arc. arc.to < states) arcs → target arcs code ≡ Some next → next < states
+leads_within states [] code next named leads = absurd (none_some next leads)
+leads_within states (arc ∷ arcs) code next named leads =
+    by (holds code arc) refl (λ on. leads_within states arcs code next (All-tail (λ a. a.to < states) arc arcs named) on)
+  where
+    by : (b : Bool) → holds code arc ≡ b → (target arcs code ≡ Some next → next < states) → next < states
+    by true e rest = let is : Some arc.to ≡ Some next = sym (target_here code arc arcs e) ∙ leads in
+        let same : arc.to ≡ next = cc in let low : arc.to < states = All-head (λ a. a.to < states) arc arcs named in omega (arith, low, same)
+    by false e rest = rest (sym (target_on code arc arcs e) ∙ leads)

@@ -1,5 +1,5 @@
 -- What joining an arc with the last one gives.
-use Rattle.std.proofs.Common.{◌≡◌, ◌≢◌, ℕ, ◌+◌, ◌-◌, ◌<◌, ◌≤◌, zero, suc, Bool, true, false, ◌==◌, Option, Some, None, List, [], ◌∷◌, ◌++◌, All, length, get_or, set, cond, arith, refl, sym, ◌∙◌, ap, subst}
+use Rattle.std.proofs.Common.{◌≡◌, ◌≢◌, ℕ, ◌-◌, ◌<◌, ◌≤◌, zero, suc, Bool, true, false, ◌==◌, Some, List, [], ◌∷◌, ◌++◌, All, length, get_or, set, cond, arith, refl, sym, ◌∙◌, ap}
 use Rattle.std.proofs.lemmas.Bool.{cond-true, cond-false, eq-eqb, eqb-true}
 use Rattle.std.proofs.lemmas.List.{get_or_default}
 use Rattle.helix_automata.specs.declared.arc.Arc.{Arc}
@@ -115,6 +115,7 @@ module _ (item : Arc) (bound : ℕ) (above : bound ≤ item.first) where
     where
       less : arc.last < bound
       less = All-head (EndsBelow bound) arc [] ends
+
       by : (b : Bool) → (arc.to == item.to) ≡ b → target (cond b (widened arc item ∷ []) (arc ∷ item ∷ [])) code ≡ Some item.to
       by true e = let within = held code item new in let right = not_turned arc (All-head HasCharacter arc [] used) in
           target_here code (widened arc item) [] (held_within code (widened arc item) (omega (arith, within.0, right, less, above)) within.1)

@@ -3,3 +3,7 @@ pub mod Finding
 pub mod Joins
 pub mod Behind
 pub mod PairRows
+pub mod Products
+pub mod LeadingOn
+pub mod Complements
+pub mod Greatest

@@ -1,20 +1,19 @@
 -- The arcs of a pair of states, made piece by piece.
-use Rattle.std.proofs.Common.{◌≡◌, ◌⊎◌, inl, inr, ℕ, ◌+◌, ◌-◌, ◌^◌, ◌<◌, ◌≤◌, min, true, false, Option, Some, None, IfNone, List, [], ◌∷◌, ◌++◌, All, length, get_or, slice_get, ap, arith, refl, sym, ◌∙◌, subst, append_assoc}
+use Rattle.std.proofs.Common.{◌≡◌, ◌⊎◌, inl, inr, ℕ, ◌+◌, ◌-◌, ◌^◌, ◌<◌, ◌≤◌, min, Option, Some, None, List, [], ◌∷◌, ◌++◌, All, length, get_or, slice_get, ap, arith, refl, sym, ◌∙◌, subst, append_assoc}
 use Rattle.std.proofs.lemmas.Bool.{lt-ltb, le-ltb, cases_lt}
 use Rattle.std.proofs.lemmas.List.{get_or_default, get_or_append_left, length-append, append-nil}
 use Rattle.std.proofs.lemmas.Option.{slice_get_within, slice_get-get_or}
-use Rattle.std.proofs.lemmas.List.Elements.{All-nil, All-get_or, All-push, All-weaker}
-use Rattle.std.specs.Prelude.{IsTrue}
+use Rattle.std.proofs.lemmas.List.Elements.{All-nil, All-push}
 use Rattle.helix_base.specs.Alphabet.{ranges_of}
 use Rattle.helix_base.specs.declared.alphabet.Alphabet.TheVariants.{Unicode}
 use Rattle.helix_base.specs.Ranges.{IsLeastFrom, EndsBelow as Ended}
 use Rattle.helix_automata.specs.declared.arc.Arc.{Arc}
-use Rattle.helix_automata.specs.Automaton.{holds, target}
+use Rattle.helix_automata.specs.Automaton.{target}
 use Rattle.helix_automata.specs.Shape.{IsCharacter, IsNextCharacter, AreInOrder, HasCharacter, AreArcs}
 use Rattle.helix_automata.specs.Joining.{joined}
 use Rattle.helix_automata.specs.Product.{Extends, ArePairs, LeadsBoth, ArePairArcs, IsUpTo, HoldsAt}
 use Rattle.helix_automata.proofs.Covering.{held, held_within, none_some}
-use Rattle.helix_automata.proofs.Finding.{ends_below, ends_rise, found}
+use Rattle.helix_automata.proofs.Finding.{ends_rise, found}
 use Rattle.helix_automata.proofs.Joins.{widened, EndsBelow, joined_all, joined_in_order, joined_keeps, joined_new}
 
 -- more pairs

@@ -1,5 +1,5 @@
 -- Arcs that are put one behind the other.
-use Rattle.std.specs.Prelude.{ℕ, ◌==◌, if◌then◌else◌, List, [], ◌∷◌}
+use Rattle.std.specs.Prelude.{◌==◌, if◌then◌else◌, List, [], ◌∷◌}
 use Rattle.helix_automata.specs.declared.arc.Arc.{Arc}
 
 -- an arc behind others, joined with the last of them where both lead to one state

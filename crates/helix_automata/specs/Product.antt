@@ -1,8 +1,5 @@
 -- What the states of a product are. Only the crate's private clauses cite it.
 use Rattle.std.specs.Prelude.{◌≡◌, ℕ, ◌<◌, ◌≤◌, ◌+◌, Some, List, ◌++◌, All, IsTrue, length, get_or, slice_get}
-use Rattle.helix_base.specs.Alphabet.{ranges_of}
-use Rattle.helix_base.specs.declared.alphabet.Alphabet.TheVariants.{Unicode}
-use Rattle.helix_base.specs.Ranges.{IsLeastFrom}
 use Rattle.helix_automata.specs.declared.arc.Arc.{Arc}
 use Rattle.helix_automata.specs.Automaton.{holds, target}
 use Rattle.helix_automata.specs.Shape.{IsCharacter, AreArcs}

@@ -1,12 +1,14 @@
 //! A deterministic automaton.
 
-ghost use Rattle.std.specs.Prelude.{◌≡◌, ◌↔◌, ◌<◌, ◌≤◌, IsTrue, IfOk, OnOk, IsErrOf, All, length, slice_get, Some};
+ghost use Rattle.std.specs.Prelude.{ℕ, List, ◌≡◌, ◌↔◌, ◌<◌, ◌≤◌, IsTrue, IfOk, OnOk, IsErrOf, All, Any, length, slice_get, Some};
 ghost use Rattle.helix_automata.specs.Automaton.{Automaton, Accepts, Leads, arcs_of};
 ghost use Rattle.helix_automata.specs.Shape.{AreArcs, HasShape, IsCharacter};
 
 use crate::arc::Arc;
 use crate::lists::{Flags, Moves};
 use crate::moving::arc_at;
+use crate::pairs::Pairs;
+use crate::product::{pair_accepts, pair_arcs};
 use crate::shape::are_rows;
 use helix_base::Memory;
 use std::alloc::Global;
@@ -76,6 +78,18 @@ impl Dfa {
         self.moves.as_slice()[state as usize].as_slice()
     }
 
+    /// The greatest number of ranges that a state has.
+    pub fn range_ends(&self) -> usize
+        ensures most { All (λ arcs. length arcs ≤ result) self.now.moves }
+        ensures reached { Any (λ arcs. length arcs ≡ result) self.now.moves }
+    {
+        let mut most = 0;
+        for arcs in self.moves.as_slice() {
+            most = most.max(arcs.as_slice().len());
+        }
+        most
+    }
+
     /// Whether a state accepts.
     pub fn accepting(&self, state: u32) -> bool
         requires { state < length self.now.moves }
@@ -106,5 +120,38 @@ impl Dfa {
             state = self.step(state, *code);
         }
         self.accepting(state)
+    }
+
+    /// The automaton that accepts the words that both accept. Its states are pairs of theirs, numbered as they are met.
+    /// Want of memory is answered too where it would have 2^32 - 1 states or more.
+    pub fn product(&self, alloc: Global, other: &Dfa) -> Result<Dfa, Memory>
+        ensures { IfOk result (λ both. (word : List ℕ) → All IsCharacter word
+            → Accepts both word ↔ (Accepts self.now word × Accepts other.now word)) }
+    {
+        let (_states, _others) = (self.states(), other.states());
+        let mut pairs = Pairs::new(alloc);
+        pairs.number((0, 0))?;
+        let mut moves = Moves::new(alloc);
+        let mut flags = Flags::new(alloc);
+        for done in 0..u32::MAX {
+            let Some(pair) = pairs.get(done) else {
+                return Ok(Dfa { moves, flags });
+            };
+            moves.push(pair_arcs(alloc, self, other, pair, &mut pairs)?)?;
+            flags.push(pair_accepts(self, other, pair))?;
+        }
+        Err(Memory)
+    }
+
+    /// The automaton that accepts the words over the alphabet that this one doesn't.
+    pub fn complement(&self, alloc: Global) -> Result<Dfa, Memory>
+        ensures { IfOk result (λ other. (word : List ℕ) → All IsCharacter word → Accepts other word ↔ (Accepts self.now word → ⊥)) }
+    {
+        let mut flags = Flags::new(alloc);
+        for flag in self.flags.as_slice() {
+            flags.push(!*flag)?;
+        }
+        let moves = self.moves.copy(alloc)?;
+        Ok(Dfa { moves, flags })
     }
 }

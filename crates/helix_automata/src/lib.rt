@@ -16,3 +16,6 @@ mod shape;
 pub use arc::Arc;
 pub use dfa::{Dfa, DfaFault};
 pub use lists::{Arcs, Flags, Moves};
+
+#[cfg(test)]
+mod tests;

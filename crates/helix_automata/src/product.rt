@@ -1,10 +1,10 @@
 //! The product of two automata: its states are pairs of theirs, numbered as they are met.
 
-ghost use Rattle.std.specs.Prelude.{◌≡◌, ◌<◌, ◌+◌, ℕ, IfOk, OnOk, length};
+ghost use Rattle.std.specs.Prelude.{◌≡◌, ◌<◌, ◌+◌, ℕ, ◌↔◌, IsTrue, IfOk, OnOk, length};
 ghost use Rattle.helix_base.specs.Alphabet.{ranges_of};
 ghost use Rattle.helix_base.specs.declared.alphabet.Alphabet.TheVariants.{Unicode};
 ghost use Rattle.helix_base.specs.Ranges.{IsLeastFrom};
-ghost use Rattle.helix_automata.specs.Automaton.{arcs_of};
+ghost use Rattle.helix_automata.specs.Automaton.{arcs_of, Ends};
 ghost use Rattle.helix_automata.specs.Shape.{AreArcs};
 ghost use Rattle.helix_automata.specs.Product.{Extends, ArePairs, ArePairArcs, IsUpTo, HoldsAt};
 
@@ -61,4 +61,13 @@ pub fn pair_arcs(
         wanted = character_above(last);
     }
     Ok(row)
+}
+
+/// Whether both states of a pair accept.
+pub fn pair_accepts(left: &Dfa, right: &Dfa, pair: (u32, u32)) -> bool
+    requires first { pair.0 < length left.now.moves }
+    requires second { pair.1 < length right.now.moves }
+    ensures { IsTrue result ↔ (Ends left.now pair.0 × Ends right.now pair.1) }
+{
+    left.accepting(pair.0) && right.accepting(pair.1)
 }

@@ -1,6 +1,4 @@
-use Rattle.std.proofs.Common.{length, ◌∙◌, ap}
-use Rattle.helix_automata.specs.declared.arc.Arc.{Arc}
-use Rattle.helix_automata.specs.Joining.{joined}
+use Rattle.std.proofs.Common.{length}
 use Rattle.helix_automata.proofs.PairRows.{walk_start, walk_more}
 use Rattle.helix_automata.proofs.product.pair_arcs.Goals as goal
 
