@@ -22,3 +22,6 @@ pub mod HoldingWords
 pub mod Finishing
 pub mod Needs
 pub mod Values
+pub mod Firsts
+pub mod Levels
+pub mod Builder

@@ -13,3 +13,5 @@ pub mod Lexeme
 pub mod Scanned
 pub mod Need
 pub mod Values
+pub mod Rules
+pub mod Building

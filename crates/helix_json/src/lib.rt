@@ -2,7 +2,9 @@
 //! place.
 #![tactic(auto)]
 
+mod build;
 mod class;
+mod depth;
 mod digits;
 mod fault;
 mod laws;

@@ -1,0 +1,48 @@
+//! The rule that at most 64 lists and objects are open.
+
+ghost use Rattle.std.specs.Prelude.{◌≡◌, ◌≤◌, [], ◌∷◌, IfSome, IfNone};
+ghost use Rattle.std.specs.Bool.{MatchBool};
+ghost use Rattle.helix_json.specs.Broken.{BeginsTooDeep, Opens, level_behind};
+ghost use Rattle.helix_json.specs.Rules.{IsFirstAt, HoldsNowhere};
+
+use crate::token::Token;
+
+/// So many lists and objects may be open.
+const DEEPEST: u32 = 64;
+
+/// The number, from 0, of the first token that begins level 65.
+pub fn first_too_deep(tokens: &[Token]) -> Option<usize>
+    ensures some { IfSome result (IsFirstAt BeginsTooDeep tokens.now) }
+    ensures none { IfNone result (HoldsNowhere BeginsTooDeep tokens.now) }
+{
+    let mut level = 0;
+    for (i, token) in tokens.iter().enumerate() {
+        if level == DEEPEST && opens(token) {
+            return Some(i);
+        }
+        level = level_behind(level, token);
+    }
+    None
+}
+
+/// Whether a token opens a list or an object.
+fn opens(token: &Token) -> bool
+    ensures { MatchBool result (Opens token.now) (¬ (Opens token.now)) }
+{
+    match token {
+        Token::OpenList | Token::OpenObject => true,
+        _ => false,
+    }
+}
+
+/// How many lists and objects are open behind a token.
+fn level_behind(level: u32, token: &Token) -> u32
+    requires { level ≤ 64 }
+    ensures { result ≡ level_behind level (token.now ∷ []) }
+{
+    match token {
+        Token::OpenList | Token::OpenObject => level + 1,
+        Token::CloseList | Token::CloseObject => level.saturating_sub(1),
+        _ => level,
+    }
+}
