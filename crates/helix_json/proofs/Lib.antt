@@ -25,3 +25,7 @@ pub mod Values
 pub mod Firsts
 pub mod Levels
 pub mod Builder
+pub mod Stays
+pub mod Starts
+pub mod Repeats
+pub mod Checked

@@ -15,3 +15,4 @@ pub mod Need
 pub mod Values
 pub mod Rules
 pub mod Building
+pub mod Scopes

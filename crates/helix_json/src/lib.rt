@@ -7,6 +7,7 @@ mod class;
 mod depth;
 mod digits;
 mod fault;
+mod keys;
 mod laws;
 mod lexeme;
 mod need;
