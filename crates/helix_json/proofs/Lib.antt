@@ -29,3 +29,6 @@ pub mod Stays
 pub mod Starts
 pub mod Repeats
 pub mod Checked
+pub mod Places
+pub mod Verdicts
+pub mod Found

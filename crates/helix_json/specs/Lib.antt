@@ -16,3 +16,4 @@ pub mod Values
 pub mod Rules
 pub mod Building
 pub mod Scopes
+pub mod Reading

@@ -1,5 +1,6 @@
 //! The rules of JSON text, and which is broken.
 
+use helix_base::Memory;
 use thiserror::Error;
 
 /// The first broken rule, with its place as a byte's number from 0.
@@ -23,4 +24,15 @@ pub enum JsonFault {
     /// An allocation failed. No rule is known to be broken.
     #[error("out of memory")]
     Memory,
+}
+
+impl From<Memory> for JsonFault {
+    ghost use Rattle.std.specs.Prelude.{◌≡◌};
+    ghost use Rattle.helix_json.specs.declared.fault.JsonFault.TheVariants.{Memory as NoMemory};
+
+    ghost from_gives = { λ _ fault. fault ≡ NoMemory };
+
+    fn from(_memory: Memory) -> JsonFault {
+        JsonFault::Memory
+    }
 }

@@ -1,0 +1,94 @@
+//! JSON text, read into its value.
+
+ghost use Rattle.std.specs.Prelude.{◌≡◌, ◌≢◌, ◌≤◌, length, IfOk, IfErr, OnOk, IsTrue};
+ghost use Rattle.std.specs.Str.{all_scalars};
+ghost use Rattle.helix_json.specs.declared.fault.JsonFault.{JsonFault as Fault};
+ghost use Rattle.helix_json.specs.declared.value.Json.{Json as Value};
+ghost use Rattle.helix_json.specs.Broken.{FirstBroken, SpellsJson, byte_place};
+ghost use Rattle.helix_json.specs.Reading.{Breaks, IsSound};
+ghost use Rattle.helix_json.specs.Scanned.{AreTokensOf};
+
+use crate::build::build;
+use crate::depth::first_too_deep;
+use crate::fault::JsonFault;
+use crate::keys::first_repeated_key;
+use crate::scan::scan;
+use crate::scanned::{Scan, Scanned};
+use crate::value::Json;
+use helix_base::Text;
+use std::alloc::Global;
+
+/// So many bytes a text may have.
+const LONGEST: usize = 1_048_576;
+
+/// The value that the bytes spell, or the first rule that they break (RFC 8259, narrowed by the
+/// rules of [`JsonFault`]). Time is in proportion to the length, but for the comparison of keys,
+/// which takes a logarithm more; nesting costs no stack.
+pub fn read(alloc: Global, bytes: &[u8]) -> Result<Json, JsonFault>
+    ensures value { IfOk result (SpellsJson bytes.now) }
+    ensures unbroken { OnOk result ((fault : Fault) → ¬ (FirstBroken bytes.now fault)) }
+    ensures broken { IfErr result (λ fault. fault ≢ JsonFault.Memory → FirstBroken bytes.now fault) }
+{
+    if bytes.len() > LONGEST {
+        return Err(JsonFault::TooLong);
+    }
+    match str::from_utf8(bytes) {
+        Ok(string) => {
+            let text = Text::of(alloc, string)?;
+            read_text(alloc, text.codes())
+        }
+        Err(error) => Err(JsonFault::NotUtf8 {
+            at: error.valid_up_to() as u64,
+        }),
+    }
+}
+
+/// The value that a text spells, or the first of the rules J3 to J5 that it breaks.
+fn read_text(alloc: Global, codes: &[u32]) -> Result<Json, JsonFault>
+    requires scalars { IsTrue (all_scalars codes.now) }
+    requires short { length codes.now ≤ 1048576 }
+    ensures sound { IfOk result (IsSound codes.now) }
+    ensures broken { IfErr result (Breaks codes.now) }
+{
+    match scan(alloc, codes)? {
+        Scan::Tokens(scanned) => value_of(alloc, codes, scanned),
+        Scan::Leaves(count) => Err(JsonFault::Grammar {
+            at: byte_place(codes, count),
+        }),
+    }
+}
+
+/// The value with the tokens of a text, or the first of the rules J4 and J5 that it breaks.
+fn value_of(alloc: Global, codes: &[u32], scanned: Scanned) -> Result<Json, JsonFault>
+    requires scalars { IsTrue (all_scalars codes.now) }
+    requires short { length codes.now ≤ 1048576 }
+    requires scanned { (value : Value) × AreTokensOf codes.now value scanned.tokens.items scanned.places.items }
+    ensures sound { IfOk result (IsSound codes.now) }
+    ensures broken { IfErr result (Breaks codes.now) }
+{
+    if let Some(i) = first_too_deep(scanned.tokens.as_slice()) {
+        return Err(JsonFault::TooDeep {
+            at: byte_place(codes, scanned.places[i]),
+        });
+    }
+    if let Some(i) = first_repeated_key(alloc, scanned.tokens.as_slice())? {
+        return Err(JsonFault::DuplicateKey {
+            at: byte_place(codes, scanned.places[i]),
+        });
+    }
+    Ok(build(alloc, scanned.tokens)?)
+}
+
+/// The place of a character, as a byte's number from 0.
+fn byte_place(codes: &[u32], count: usize) -> u64
+    requires scalars { IsTrue (all_scalars codes.now) }
+    requires short { length codes.now ≤ 1048576 }
+    requires within { count ≤ length codes.now }
+    ensures { result ≡ byte_place codes.now count }
+{
+    let mut place = 0;
+    for code in &codes[..count] {
+        place += char::from_u32(*code).unwrap().len_utf8() as u64;
+    }
+    place
+}
