@@ -1,3 +1,4 @@
+mod reader;
 mod scan;
 
 use crate::{is_number, number_units, numbers_of_a_value, one_value};
