@@ -8,12 +8,16 @@
 
 mod containing;
 mod expr;
+mod fault;
 mod matching;
+mod mode;
 mod ranges;
 mod regex;
+mod sign;
 
 pub use containing::contains_match;
 pub use expr::{Expr, Exprs, copy_exprs};
+pub use fault::{RegexError, RegexFault, RegexRule};
 pub use matching::matches;
 pub use ranges::Ranges;
 pub use regex::Regex;
