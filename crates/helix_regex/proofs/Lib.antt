@@ -5,3 +5,7 @@ pub mod Agreeing
 pub mod Texts
 pub mod Signs
 pub mod ClassSound
+pub mod Sound
+pub mod SoundSteps
+pub mod Finishing
+pub mod ClassReads
