@@ -9,3 +9,4 @@ pub mod Sound
 pub mod SoundSteps
 pub mod Finishing
 pub mod ClassReads
+pub mod Reading
