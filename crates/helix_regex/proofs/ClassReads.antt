@@ -159,8 +159,8 @@ first_items k n (single e ∷ is) starts some fits caretless = regroup k (end_te
     ∙ items_end is fits.1 n [] (Some e))
 first_items k n (range e f ∷ is) starts some fits caretless = ap (class_ends k) (range_front e f is)
     ∙ (single_ends k n [] e (45 ∷ end_text f ++ (items_text is ++ 93 ∷ [])) fits.0.0
-        (plain_starts k n starts e (45 ∷ end_text f ++ items_text is) (λ g h. caretless g (subst BeginsWithCaret (sym (append_assoc (end_text e) (45 ∷ end_text f) (items_text is))) h)))
-        (backslash_starts k n starts)
+    (plain_starts k n starts e (45 ∷ end_text f ++ items_text is) (λ g h. caretless g (subst BeginsWithCaret (sym (append_assoc (end_text e) (45 ∷ end_text f) (items_text is))) h)))
+    (backslash_starts k n starts)
     ∙ (moves_to (class_one n [] e) (class_dash n [] e) 45 (end_text f ++ (items_text is ++ 93 ∷ [])) refl
     ∙ (far_ends n [] e f (items_text is ++ 93 ∷ []) fits.0.1
     ∙ items_end is fits.1 n (range e f ∷ []) None)))

@@ -21,7 +21,7 @@ closes [] b h f = ([], b, h, append-nil (pattern_text b))
 closes ((before, bare) ∷ fs) b h f =
     let closed : Leaves (close b ((before, bare) ∷ fs)) ((frames_text ((before, bare) ∷ fs) ++ pattern_text b) ++ 41 ∷ []) = close_leaves b ((before, bare) ∷ fs) 41 refl h f in
     one_more (frames_text ((before, bare) ∷ fs) ++ pattern_text b) 41
-        (subst Ends closed.1 (closes fs (append before (piece (grouped bare b) once)) (fits-pushed before (grouped bare b) once f.0 h tt) f.1))
+    (subst Ends closed.1 (closes fs (append before (piece (grouped bare b) once)) (fits-pushed before (grouped bare b) once f.0 h tt) f.1))
 
 outside_ends : (last : Last) (b : Pattern) (fs : List Frame) → Fine (outside last b fs) → Ends (written (outside last b fs))
 outside_ends last b fs (h, f, l) = closes fs (settled last b) (settled_fits last b fs h l) f

@@ -10,3 +10,6 @@ pub mod SoundSteps
 pub mod Finishing
 pub mod ClassReads
 pub mod Reading
+pub mod Scanned
+pub mod OneRegex
+pub mod PatternExamples

@@ -61,14 +61,14 @@ least_read : (ds : List ℕ) (so_far : List ℕ) (a : Atom) (b : Pattern) (fs : 
     → run (counting (count_least so_far) a b fs) (ds ++ r) ≡ run (counting (count_least (so_far ++ ds)) a b fs) r
 least_read [] so_far a b fs r fits = ap (λ l. run (counting (count_least l) a b fs) r) (sym (append-nil so_far))
 least_read (d ∷ ds) so_far a b fs r fits = run_step (counting (count_least so_far) a b fs) (counting (count_least (so_far ++ d ∷ [])) a b fs) d (ds ++ r)
-        (ap (λ s. count_step (count_least so_far) a b fs s d) (digit_sign d fits.0))
+    (ap (λ s. count_step (count_least so_far) a b fs s d) (digit_sign d fits.0))
     ∙ (least_read ds (so_far ++ d ∷ []) a b fs r fits.1 ∙ ap (λ l. run (counting (count_least l) a b fs) r) (append_assoc so_far (d ∷ []) ds))
 
 most_read : (es : List ℕ) (ds so_far : List ℕ) (a : Atom) (b : Pattern) (fs : List Frame) (r : List ℕ) → AreDigits es
     → run (counting (count_most ds so_far) a b fs) (es ++ r) ≡ run (counting (count_most ds (so_far ++ es)) a b fs) r
 most_read [] ds so_far a b fs r fits = ap (λ l. run (counting (count_most ds l) a b fs) r) (sym (append-nil so_far))
 most_read (e ∷ es) ds so_far a b fs r fits = run_step (counting (count_most ds so_far) a b fs) (counting (count_most ds (so_far ++ e ∷ [])) a b fs) e (es ++ r)
-        (ap (λ s. count_step (count_most ds so_far) a b fs s e) (digit_sign e fits.0))
+    (ap (λ s. count_step (count_most ds so_far) a b fs s e) (digit_sign e fits.0))
     ∙ (most_read es ds (so_far ++ e ∷ []) a b fs r fits.1 ∙ ap (λ l. run (counting (count_most ds l) a b fs) r) (append_assoc so_far (e ∷ []) es))
 
 -- the first number of a count, behind its `{`
@@ -234,5 +234,5 @@ same_all p q e = ap settled_of e
 
 pub one_pattern : (text : List ℕ) (p q : Pattern) → Writes text p → Writes text q → p ≡ q
 one_pattern text p q h k = sym (all_read p) ∙ (same_all (behind begin p) (behind begin q)
-        (same_state _ _ (sym (reads_all p h.fits) ∙ (ap (run start) (sym h.is ∙ k.is) ∙ reads_all q k.fits)))
+    (same_state _ _ (sym (reads_all p h.fits) ∙ (ap (run start) (sym h.is ∙ k.is) ∙ reads_all q k.fits)))
     ∙ all_read q)

@@ -161,8 +161,10 @@ pub atom_leaves : (a : Atom) (b : Pattern) (fs : List Frame) (s : Sign) (c : ℕ
 atom_leaves a b fs sign_is.Star c m h k l = ((h, k, (l, tt)), counted_text a b fs star c (ap (λ d. d ∷ []) (sym m)))
 atom_leaves a b fs sign_is.Plus c m h k l = ((h, k, (l, tt)), counted_text a b fs plus c (ap (λ d. d ∷ []) (sym m)))
 atom_leaves a b fs sign_is.Question c m h k l = ((h, k, (l, tt)), counted_text a b fs question c (ap (λ d. d ∷ []) (sym m)))
-atom_leaves a b fs sign_is.Brace c m h k l = ((h, k, l, tt),
-    ap (λ d. frames_text fs ++ (pattern_text b ++ (atom_text a ++ d ∷ []))) (sym m) ∙ (inner_two (frames_text fs) (pattern_text b) (atom_text a) c ∙ ap (λ t. t ++ c ∷ []) (sym (with_atom a b fs))))
+atom_leaves a b fs sign_is.Brace c m h k l = (
+  (h, k, l, tt),
+  ap (λ d. frames_text fs ++ (pattern_text b ++ (atom_text a ++ d ∷ []))) (sym m) ∙ (inner_two (frames_text fs) (pattern_text b) (atom_text a) c ∙ ap (λ t. t ++ c ∷ []) (sym (with_atom a b fs))),
+)
 atom_leaves a b fs s c m h k l = settled_leaves (settled (atom a) b) fs s c m (settled_fits (atom a) b fs h l) k
 
 lazy_text : (count : Count) → quant_text (times count true) ≡ quant_text (times count false) ++ 63 ∷ []
@@ -179,16 +181,22 @@ repeated_leaves a count b fs s c m h k l n = settled_leaves (settled (repeated a
 
 pub opened_leaves : (b : Pattern) (fs : List Frame) (s : Sign) (c : ℕ) → SignMeans s c → Fits b → FitFrames fs → b ≡ end → IsPlain fs
     → Leaves (outside_step opened b fs s c) ((frames_text fs ++ pattern_text b) ++ c ∷ [])
-opened_leaves b fs sign_is.Question c m h k e p = ((k, p), ap (λ d. frames_text fs ++ d ∷ []) (sym m)
-    ∙ ap (λ t. t ++ c ∷ []) (sym (append-nil (frames_text fs)) ∙ ap (λ q. frames_text fs ++ pattern_text q) (sym e)))
+opened_leaves b fs sign_is.Question c m h k e p = (
+  (k, p),
+  ap (λ d. frames_text fs ++ d ∷ []) (sym m)
+      ∙ ap (λ t. t ++ c ∷ []) (sym (append-nil (frames_text fs)) ∙ ap (λ q. frames_text fs ++ pattern_text q) (sym e)),
+)
 opened_leaves b fs s c m h k e p = settled_leaves b fs s c m h k
 
 pub marked_leaves : (test : Bool) (fs : List Frame) (c : ℕ) → (test ≡ true → c ≡ 58) → FitFrames fs → IsPlain fs → Leaves (marked_step test fs) ((frames_text fs ++ 63 ∷ []) ++ c ∷ [])
 marked_leaves false fs c m k p = tt
 marked_leaves true [] c m k p = absurd p
 marked_leaves true ((b, true) ∷ fs) c m k p = cc
-marked_leaves true ((b, false) ∷ fs) c m k p = ((tt, k, tt), append-nil (frames_text fs ++ (pattern_text b ++ codes "(?:"))
-    ∙ (ap (λ d. frames_text fs ++ (pattern_text b ++ 40 ∷ 63 ∷ d ∷ [])) (sym (m refl)) ∙ simp append_assoc))
+marked_leaves true ((b, false) ∷ fs) c m k p = (
+  (tt, k, tt),
+  append-nil (frames_text fs ++ (pattern_text b ++ codes "(?:"))
+      ∙ (ap (λ d. frames_text fs ++ (pattern_text b ++ 40 ∷ 63 ∷ d ∷ [])) (sym (m refl)) ∙ simp append_assoc),
+)
 
 pub escape_leaves : (b : Pattern) (fs : List Frame) (s : EscapeSign) (c : ℕ) → EscapeMeans s c → Fits b → FitFrames fs
     → Leaves (escape_step b fs s c) ((frames_text fs ++ (pattern_text b ++ 92 ∷ [])) ++ c ∷ [])

@@ -126,21 +126,29 @@ class_leaves_move : (k : InClass) (before : ℕ) (b : Pattern) (fs : List Frame)
     → Leaves (class_step false m c b fs) ((frames_text fs ++ (pattern_text b ++ 91 ∷ class_so_far k)) ++ c ∷ [])
 class_leaves_move k before b fs c refuse h f apart carets moved = tt
 class_leaves_move k before b fs c (go next) h f apart carets moved = (
-  (h, f, record {
-    fine = moved.0;
-    no_caret = subst (NoCaret (is_excluded next)) (sym moved.1) carets;
-    apart = ap (parts_ampersands 91) moved.1 ∙ apart;
-    last = ap (last_of 91) moved.1 ∙ last_more 91 (class_so_far k) c;
-  }),
+  (
+    h,
+    f,
+    record {
+      fine = moved.0;
+      no_caret = subst (NoCaret (is_excluded next)) (sym moved.1) carets;
+      apart = ap (parts_ampersands 91) moved.1 ∙ apart;
+      last = ap (last_of 91) moved.1 ∙ last_more 91 (class_so_far k) c;
+    },
+  ),
   ap (λ t. frames_text fs ++ (pattern_text b ++ 91 ∷ t)) moved.1 ∙ class_inner (frames_text fs) (pattern_text b) (class_so_far k) c,
 )
 class_leaves_move k before b fs c (done n is) h f apart carets moved = (
-  (h, f, record {
-    some = moved.0;
-    fit = moved.1;
-    no_caret = closed_caret n is (class_so_far k ++ c ∷ []) carets moved.2;
-    apart = ap (parts_ampersands 91) (sym (class_text_is n is) ∙ moved.2) ∙ apart;
-  }),
+  (
+    h,
+    f,
+    record {
+      some = moved.0;
+      fit = moved.1;
+      no_caret = closed_caret n is (class_so_far k ++ c ∷ []) carets moved.2;
+      apart = ap (parts_ampersands 91) (sym (class_text_is n is) ∙ moved.2) ∙ apart;
+    },
+  ),
   with_atom (alone (class n is)) b fs ∙ (ap (λ t. frames_text fs ++ (pattern_text b ++ 91 ∷ t)) (sym (class_text_is n is) ∙ moved.2)
       ∙ class_inner (frames_text fs) (pattern_text b) (class_so_far k) c),
 )

@@ -1,5 +1,5 @@
 -- How a scanner of patterns goes on behind each character. Only the crate's private clauses cite it.
-use Rattle.std.specs.Prelude.{ℕ, ◌==◌, ◌&&◌, if◌then◌else◌, Bool, true, false}
+use Rattle.std.specs.Prelude.{ℕ, zero, suc, ◌+◌, ◌==◌, ◌&&◌, if◌then◌else◌, Bool, true, false, Option, Some, None}
 use Rattle.helix_regex.specs.declared.sign.Sign.{Sign}
 use Rattle.helix_regex.specs.declared.sign.Sign.TheVariants as sign_is
 use Rattle.helix_regex.specs.declared.sign.EscapeSign.{EscapeSign}
@@ -14,6 +14,7 @@ use Rattle.helix_regex.specs.declared.mode.ClassMode.{ClassMode}
 use Rattle.helix_regex.specs.declared.mode.ClassMode.TheVariants as class
 use Rattle.helix_regex.specs.declared.mode.Advance.{Advance}
 use Rattle.helix_regex.specs.declared.mode.Advance.TheVariants as advance
+use Rattle.helix_regex.specs.declared.scan.Position.{Position}
 use Rattle.helix_regex.specs.Characters.{is_literal, is_digit, is_punct, is_set_letter, is_class_char}
 
 abbrev pub sign : ℕ → Sign
@@ -136,3 +137,21 @@ mode_step mode.Marked c = stay_if (c == 58) mode.Ready
 mode_step mode.Escape c = escape_advance (escape_sign c)
 mode_step (mode.Class m before) c = if before == 38 && c == 38 then advance.Refuse else class_advance m c
 mode_step m c = count_advance m (count_sign c)
+
+-- a scanner's position behind one more character, or none where it is refused
+abbrev pub moved : Advance → ℕ → Option Position
+moved advance.Refuse d = None
+moved (advance.Stay m) d = Some (record { mode = m; depth = d })
+moved (advance.Open m) d = Some (record { mode = m; depth = d + 1 })
+moved (advance.Close m) zero = None
+moved (advance.Close m) (suc d) = Some (record { mode = m; depth = d })
+
+abbrev pub position_step : Position → ℕ → Option Position
+position_step p c = moved (mode_step p.mode c) p.depth
+
+-- a pattern may end in this mode, where no group is open
+abbrev pub may_end : Mode → Bool
+may_end mode.Ready = true
+may_end mode.Atom = true
+may_end mode.Quantified = true
+may_end _ = false

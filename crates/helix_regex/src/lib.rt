@@ -9,15 +9,18 @@
 mod containing;
 mod expr;
 mod fault;
+mod laws;
 mod matching;
 mod mode;
 mod ranges;
 mod regex;
+mod scan;
 mod sign;
 
 pub use containing::contains_match;
 pub use expr::{Expr, Exprs, copy_exprs};
 pub use fault::{RegexError, RegexFault, RegexRule};
+pub use laws::{one_pattern, one_regex};
 pub use matching::matches;
 pub use ranges::Ranges;
 pub use regex::Regex;

@@ -75,8 +75,7 @@ pub fn next_mode(mode: Mode, code: u32) -> Advance
         Mode::Marked => stay_if(code == 58, Mode::Ready),
         Mode::Escape => next_in_escape(code),
         Mode::CountOpened | Mode::CountLeast | Mode::CountComma | Mode::CountMost => next_in_count(
-            mode,
-            code,
+            mode, code,
         ),
         Mode::Class(class, before) => next_in_class(class, before, code),
         Mode::Ready => next_settled(sign_of(code)),
@@ -197,7 +196,10 @@ fn next_in_class_escape(class: ClassMode, code: u32) -> Advance
     match (class, escape_sign_of(code)) {
         (ClassMode::Escape, EscapeSign::Itself) => Advance::Stay(Mode::Class(ClassMode::One, code)),
         (ClassMode::Escape, EscapeSign::Set) => Advance::Stay(Mode::Class(ClassMode::Items, code)),
-        (ClassMode::FarEscape, EscapeSign::Itself) => Advance::Stay(Mode::Class(ClassMode::Items, code)),
+        (ClassMode::FarEscape, EscapeSign::Itself) => Advance::Stay(Mode::Class(
+            ClassMode::Items,
+            code,
+        )),
         _ => Advance::Refuse,
     }
 }
@@ -207,17 +209,26 @@ fn next_item(class: ClassMode, sign: ClassSign, code: u32) -> Advance
 {
     match (class, sign) {
         (ClassMode::Dash, ClassSign::Plain) => Advance::Stay(Mode::Class(ClassMode::Items, code)),
-        (ClassMode::Dash, ClassSign::Backslash) => Advance::Stay(Mode::Class(ClassMode::FarEscape, code)),
-        (ClassMode::Opened | ClassMode::First | ClassMode::Items | ClassMode::One, ClassSign::Plain) => Advance::Stay(
-            Mode::Class(ClassMode::One, code),
-        ),
-        (ClassMode::Opened | ClassMode::First | ClassMode::Items | ClassMode::One, ClassSign::Backslash) => Advance::Stay(
-            Mode::Class(ClassMode::Escape, code),
-        ),
-        (ClassMode::Opened | ClassMode::First, ClassSign::Dash) => Advance::Stay(Mode::Class(ClassMode::Items, code)),
+        (ClassMode::Dash, ClassSign::Backslash) => Advance::Stay(Mode::Class(
+            ClassMode::FarEscape,
+            code,
+        )),
+        (
+            ClassMode::Opened | ClassMode::First | ClassMode::Items | ClassMode::One,
+            ClassSign::Plain,
+        ) => Advance::Stay(Mode::Class(ClassMode::One, code)),
+        (
+            ClassMode::Opened | ClassMode::First | ClassMode::Items | ClassMode::One,
+            ClassSign::Backslash,
+        ) => Advance::Stay(Mode::Class(ClassMode::Escape, code)),
+        (ClassMode::Opened | ClassMode::First, ClassSign::Dash) => Advance::Stay(Mode::Class(
+            ClassMode::Items,
+            code,
+        )),
         (ClassMode::Items, ClassSign::Dash) => Advance::Stay(Mode::Class(ClassMode::Last, code)),
         (ClassMode::One, ClassSign::Dash) => Advance::Stay(Mode::Class(ClassMode::Dash, code)),
-        (ClassMode::Items | ClassMode::One | ClassMode::Dash | ClassMode::Last, ClassSign::Close) => Advance::Stay(Mode::Atom),
+        (ClassMode::Items | ClassMode::One | ClassMode::Dash | ClassMode::Last, ClassSign::Close) =>
+            Advance::Stay(Mode::Atom),
         _ => Advance::Refuse,
     }
 }

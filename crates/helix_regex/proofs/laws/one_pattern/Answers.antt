@@ -1,0 +1,5 @@
+use Rattle.helix_regex.proofs.Reading as reading
+use Rattle.helix_regex.proofs.laws.one_pattern.Goals as goal
+
+pub returns : goal.returns
+returns c = reading.one_pattern
