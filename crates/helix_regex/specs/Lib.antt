@@ -5,3 +5,5 @@ pub mod Meaning
 pub mod Faults
 pub mod Scan
 pub mod Machine
+pub mod Tokens
+pub mod Lexing

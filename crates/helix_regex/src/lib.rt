@@ -10,12 +10,14 @@ mod containing;
 mod expr;
 mod fault;
 mod laws;
+mod lexer;
 mod matching;
 mod mode;
 mod ranges;
 mod regex;
 mod scan;
 mod sign;
+mod token;
 
 pub use containing::contains_match;
 pub use expr::{Expr, Exprs, copy_exprs};
