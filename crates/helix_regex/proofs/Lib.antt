@@ -13,3 +13,8 @@ pub mod Reading
 pub mod Scanned
 pub mod OneRegex
 pub mod PatternExamples
+pub mod TokenTexts
+pub mod ClassLexed
+pub mod Lexed
+pub mod LexedSteps
+pub mod Tokenized

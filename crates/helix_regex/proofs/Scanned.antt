@@ -50,11 +50,11 @@ unfolding run
 one_on None = refl
 one_on (Some s) = refl
 
-run_one : (s : State) (c : ℕ) → run s (c ∷ []) ≡ step s c
+pub run_one : (s : State) (c : ℕ) → run s (c ∷ []) ≡ step s c
 unfolding run
 run_one s c = one_on (step s c)
 
-none_after : (s : State) (c : ℕ) (cs : List ℕ) → step s c ≡ None → run s (c ∷ cs) ≡ None
+pub none_after : (s : State) (c : ℕ) (cs : List ℕ) → step s c ≡ None → run s (c ∷ cs) ≡ None
 unfolding run
 none_after s c cs e = ap (λ o. on_some o (λ n. run n cs)) e
 
@@ -109,7 +109,7 @@ no_pattern text p e w = let f : None ≡ Some (at_place (behind begin p) []) = s
 viable : (front : List ℕ) (p : Position) → Scanned front p → IsViable front
 viable front p h = subst IsViable h.is (ends_viable (written h.state) (state_ends h.state h.fine))
 
-front_of : (codes : List ℕ) (i more : ℕ) → i < more → more ≤ length codes → take more codes ≡ (take i codes ++ get_or codes i 0 ∷ []) ++ take (more - (i + 1)) (drop (i + 1) codes)
+pub front_of : (codes : List ℕ) (i more : ℕ) → i < more → more ≤ length codes → take more codes ≡ (take i codes ++ get_or codes i 0 ∷ []) ++ take (more - (i + 1)) (drop (i + 1) codes)
 front_of codes i more lt le =
     let e : i + 1 + (more - (i + 1)) ≡ more = omega arith in
     ap (λ n. take n codes) (sym e) ∙ (take-add (i + 1) (more - (i + 1)) codes ∙ ap (λ t. t ++ take (more - (i + 1)) (drop (i + 1) codes)) (take_more codes i 0 (omega arith)))

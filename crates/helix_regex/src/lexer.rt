@@ -3,6 +3,7 @@
 ghost use Rattle.std.specs.Prelude.{◌≡◌, ◌+◌, ◌-◌, ◌*◌, ◌++◌, ◌<◌, min, IsTrue, OnOk, IfOk, ℕ};
 ghost use Rattle.helix_regex.specs.Characters.{is_character};
 ghost use Rattle.helix_regex.specs.Pattern.{Pattern, Writes};
+ghost use Rattle.helix_regex.specs.Faults.{AreCharacters};
 ghost use Rattle.helix_regex.specs.Tokens.{tokens};
 ghost use Rattle.helix_regex.specs.Scan.{sign, escape_sign, count_sign, class_sign, mode_step};
 ghost use Rattle.helix_regex.specs.Lexing.{lexer_step, emitted, mode_after, keeps_place, begins_one, next_least, next_most, with_digit, outside_token, escape_token, count_token_of, item_tokens_of, class_escape_token, class_emitted, option_list};
@@ -271,4 +272,24 @@ fn push_items(
         }
         _ => Ok(()),
     }
+}
+
+/// The tokens of a text that is in the grammar.
+pub fn tokens_of(alloc: Global, codes: &[u32]) -> Result<Vec<Token>, AllocError>
+    requires { AreCharacters codes.now }
+    ensures { IfOk result (λ all. (pattern : Pattern) → Writes codes.now pattern → all.items ≡ tokens 0 pattern) }
+{
+    let mut all = Vec::new(alloc);
+    let mut lexer = Lexer {
+        mode: Mode::Ready,
+        at: 0,
+        first: 0,
+        least: 0,
+        most: 0,
+    };
+    for (i, code) in codes.iter().enumerate() {
+        push_tokens(&mut all, lexer, *code, i)?;
+        lexer = lexer.next(*code, i);
+    }
+    Ok(all)
 }
