@@ -18,3 +18,4 @@ pub mod ClassLexed
 pub mod Lexed
 pub mod LexedSteps
 pub mod Tokenized
+pub mod Deep

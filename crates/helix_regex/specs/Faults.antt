@@ -1,5 +1,5 @@
 -- The rules of a pattern in the order in which they are tested, and the place of the first that is broken.
-use Rattle.std.specs.Prelude.{◌≡◌, ◌⊎◌, ℕ, ◌+◌, ◌*◌, ◌<◌, ◌≤◌, ◌==◌, ◌||◌, nat_lt, max, if◌then◌else◌, Bool, true, false, IsTrue, Option, Some, None, List, [], ◌∷◌, ◌++◌, length, take, All, Contains}
+use Rattle.std.specs.Prelude.{◌≡◌, ◌⊎◌, ℕ, ◌+◌, ◌*◌, ◌<◌, ◌≤◌, ◌==◌, ◌||◌, nat_lt, min, max, if◌then◌else◌, Bool, true, false, IsTrue, Option, Some, None, List, [], ◌∷◌, ◌++◌, length, take}
 use Rattle.helix_regex.specs.declared.fault.RegexFault.{RegexFault}
 use Rattle.helix_regex.specs.declared.fault.RegexRule.{RegexRule}
 use Rattle.helix_regex.specs.declared.fault.RegexRule.TheVariants as rule
@@ -127,21 +127,27 @@ depth (group bare inner q p) = max (depth inner + 1) (depth p)
 abbrev pub is_too_large : Pattern → Bool
 is_too_large pattern = nat_lt 5000 (positions pattern) || nat_lt 64 (depth pattern)
 
-abbrev pub IsFirst : ℕ → List ℕ → Type 0
-IsFirst at [] = ⊥
-IsFirst at (place ∷ places) = at ≡ place
+-- the first of some places, and the least
+abbrev pub first_of : List ℕ → Option ℕ
+first_of [] = None
+first_of (place ∷ places) = Some place
 
-pub record IsLeast (at : ℕ) (places : List ℕ) : Type 0 where
-  pub listed : Contains places at
-  pub least : All (λ place. at ≤ place) places
+abbrev pub lesser : Option ℕ → Option ℕ → Option ℕ
+lesser None b = b
+lesser (Some x) None = Some x
+lesser (Some x) (Some y) = Some (min x y)
+
+abbrev pub least_of : List ℕ → Option ℕ
+least_of [] = None
+least_of (place ∷ places) = lesser (Some place) (least_of places)
 
 -- the rule is broken there, and none before it is broken
 abbrev pub Breaks : RegexRule → List ℕ → ℕ → Type 0
 Breaks rule.OutsideAlphabet text at = LeavesAlphabet text at
 Breaks rule.Syntax text at = AreCharacters text × LeavesGrammar text at
-Breaks rule.Anchor text at = (pattern : Pattern) × Writes text pattern × IsLeast at (bad_anchors pattern)
-Breaks rule.BadRange text at = (pattern : Pattern) × Writes text pattern × (bad_anchors pattern ≡ []) × IsFirst at (bad_ranges 0 pattern)
-Breaks rule.BadCount text at = (pattern : Pattern) × Writes text pattern × (bad_anchors pattern ≡ []) × (bad_ranges 0 pattern ≡ []) × IsFirst at (bad_counts 0 pattern)
+Breaks rule.Anchor text at = (pattern : Pattern) × Writes text pattern × (least_of (bad_anchors pattern) ≡ Some at)
+Breaks rule.BadRange text at = (pattern : Pattern) × Writes text pattern × (bad_anchors pattern ≡ []) × (first_of (bad_ranges 0 pattern) ≡ Some at)
+Breaks rule.BadCount text at = (pattern : Pattern) × Writes text pattern × (bad_anchors pattern ≡ []) × (bad_ranges 0 pattern ≡ []) × (first_of (bad_counts 0 pattern) ≡ Some at)
 Breaks rule.TooLarge text at = (pattern : Pattern) × Writes text pattern × (bad_anchors pattern ≡ []) × (bad_ranges 0 pattern ≡ []) × (bad_counts 0 pattern ≡ [])
     × IsTrue (is_too_large pattern) × (at ≡ 0)
 

@@ -7,3 +7,4 @@ pub mod Scan
 pub mod Machine
 pub mod Tokens
 pub mod Lexing
+pub mod Phases

@@ -13,6 +13,7 @@ mod laws;
 mod lexer;
 mod matching;
 mod mode;
+mod phases;
 mod ranges;
 mod regex;
 mod scan;

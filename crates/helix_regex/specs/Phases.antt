@@ -1,0 +1,69 @@
+-- The rules of a pattern on its tokens. Only the crate's private clauses cite it.
+use Rattle.std.specs.Prelude.{ℕ, zero, suc, ◌+◌, ◌-◌, ◌*◌, min, max, ◌==◌, ◌&&◌, ◌||◌, nat_lt, if◌then◌else◌, Bool, true, false, Option, Some, None, List, [], ◌∷◌, ◌++◌}
+use Rattle.std.specs.List.{list_any}
+use Rattle.helix_regex.specs.declared.token.Token.{Token}
+use Rattle.helix_regex.specs.declared.token.Token.TheVariants as token
+use Rattle.helix_regex.specs.Faults.{lesser}
+
+abbrev pub or_else : Option ℕ → Option ℕ → Option ℕ
+or_else None b = b
+or_else (Some x) b = Some x
+
+abbrev pub some_if : Bool → ℕ → Option ℕ
+some_if true at = Some at
+some_if false at = None
+
+-- the first place that a token has
+abbrev pub first_some : (Token → Option ℕ) → List Token → Option ℕ
+first_some f [] = None
+first_some f (t ∷ ts) = or_else (f t) (first_some f ts)
+
+-- and the least
+abbrev pub least_some : (Token → Option ℕ) → List Token → Option ℕ
+least_some f [] = None
+least_some f (t ∷ ts) = lesser (f t) (least_some f ts)
+
+abbrev pub turned_at : Token → Option ℕ
+turned_at (token.Range first last at) = some_if (nat_lt last first) at
+turned_at _ = None
+
+abbrev pub exceeds : Option ℕ → ℕ → Bool
+exceeds None least = false
+exceeds (Some most) least = nat_lt 1000 most || nat_lt most least
+
+abbrev pub miscounted_at : Token → Option ℕ
+miscounted_at (token.Repeat least most at) = some_if (nat_lt 1000 least || exceeds most least) at
+miscounted_at _ = None
+
+abbrev pub stray_at : ℕ → Token → Option ℕ
+stray_at size (token.Caret at) = some_if (nat_lt 0 at) at
+stray_at size (token.Dollar at) = some_if (nat_lt (at + 1) size) at
+stray_at size _ = None
+
+abbrev pub is_caret : Token → Bool
+is_caret (token.Caret at) = true
+is_caret _ = false
+
+abbrev pub is_dollar : Token → Bool
+is_dollar (token.Dollar at) = true
+is_dollar _ = false
+
+-- how many groups are open behind a token
+abbrev pub level : ℕ → Token → ℕ
+level d token.Open = suc d
+level d token.Close = d - 1
+level d _ = d
+
+abbrev pub bar_at : ℕ → Token → Option ℕ
+bar_at d (token.Bar at) = some_if (d == 0) at
+bar_at d _ = None
+
+-- the first bar outside of groups, where so many are open before
+abbrev pub outer_bar : ℕ → List Token → Option ℕ
+outer_bar d [] = None
+outer_bar d (t ∷ ts) = or_else (bar_at d t) (outer_bar (level d t) ts)
+
+-- the most groups that are open at once, where so many are open before
+abbrev pub deepest : ℕ → List Token → ℕ
+deepest d [] = d
+deepest d (t ∷ ts) = max d (deepest (level d t) ts)
