@@ -19,3 +19,5 @@ pub mod Lexed
 pub mod LexedSteps
 pub mod Tokenized
 pub mod Deep
+pub mod Quiet
+pub mod Phased
