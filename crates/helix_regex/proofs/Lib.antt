@@ -21,3 +21,4 @@ pub mod Tokenized
 pub mod Deep
 pub mod Quiet
 pub mod Phased
+pub mod Counted

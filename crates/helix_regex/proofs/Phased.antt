@@ -107,7 +107,7 @@ capped_above x = elim (cases_lt 1000 x) [
   | inr le ↦ not_lt 1000 (min x 1001) (omega arith) ∙ sym (not_lt 1000 x le)
 ]
 
-low : (x : ℕ) → nat_lt 1000 x ≡ false → min x 1001 ≡ x
+pub low : (x : ℕ) → nat_lt 1000 x ≡ false → min x 1001 ≡ x
 low x e = elim (cases_lt 1000 x) [
   | inl lt ↦ let f : nat_lt 1000 x ≡ true = lt-ltb 1000 x lt in cc
   | inr le ↦ omega arith
@@ -227,7 +227,7 @@ outer_quant d (times (exactly ds) lazy) at r = refl
 outer_quant d (times (at_least ds) lazy) at r = refl
 outer_quant d (times (between ds es) lazy) at r = refl
 
-closed : (d : ℕ) (ts : List Token) → outer_bar (suc d - 1) ts ≡ outer_bar d ts
+pub closed : (d : ℕ) (ts : List Token) → outer_bar (suc d - 1) ts ≡ outer_bar d ts
 closed d ts = let e : suc d - 1 ≡ d = omega arith in ap (λ n. outer_bar n ts) e
 
 regroup : (d : ℕ) (a b c : List Token) → outer_bar d ((a ++ b) ++ c) ≡ outer_bar d (a ++ (b ++ c))

@@ -8,3 +8,4 @@ pub mod Machine
 pub mod Tokens
 pub mod Lexing
 pub mod Phases
+pub mod Positions

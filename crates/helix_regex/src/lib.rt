@@ -18,6 +18,7 @@ mod ranges;
 mod regex;
 mod scan;
 mod sign;
+mod size;
 mod token;
 
 pub use containing::contains_match;
