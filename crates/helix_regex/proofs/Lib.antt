@@ -22,3 +22,5 @@ pub mod Deep
 pub mod Quiet
 pub mod Phased
 pub mod Counted
+pub mod Faulty
+pub mod Letters

@@ -9,7 +9,7 @@ use Rattle.helix_regex.specs.Pattern.{End, Item, single, range, set_item, dash, 
 use Rattle.helix_regex.specs.Meaning.{code_of, number_of, has_caret, has_dollar}
 use Rattle.helix_regex.specs.Faults.{place_if, piece_text, group_text, stray_anchors, outer_bars, bad_anchors, turned_ranges, ranges_in, bad_ranges, is_bad_count, bad_counts, depth, first_of, lesser, least_of}
 use Rattle.helix_regex.specs.Tokens.{item_token, item_tokens, exclusion, items_at, single_tokens, capped, count_token, quant_tokens, tokens}
-use Rattle.helix_regex.specs.Phases.{or_else, some_if, first_some, least_some, turned_at, exceeds, miscounted_at, stray_at, is_caret, is_dollar, level, bar_at, outer_bar, deepest}
+use Rattle.helix_regex.specs.Phases.{or_else, some_if, first_some, least_some, turned_at, exceeds, miscounted_at, stray_at, is_caret, is_dollar, level, bar_at, outer_bar, deepest, anchors_found}
 use Rattle.helix_regex.proofs.Deep.{deepest_least}
 use Rattle.helix_regex.proofs.Quiet.{AreInner, inner_single, first_quiet, least_quiet, any_quiet, quiet_count, quiet_stray, quiet_caret, quiet_dollar, outer_quiet, deepest_quiet}
 use Rattle.helix_regex.proofs.Decides.{not_lt, differ}
@@ -295,10 +295,6 @@ first_least (one s q p) at = first_least p (at + length (piece_text s q))
 first_least (group bare inner q p) at = first_least p (at + length (group_text bare inner q))
 
 -- what the rule on anchors finds
-abbrev pub anchors_found : Option ℕ → Bool → Option ℕ → Option ℕ
-anchors_found stray true first_bar = lesser stray first_bar
-anchors_found stray false first_bar = stray
-
 both_found : (a bars : List ℕ) (b : Bool) → least_of (a ++ (if b then bars else [])) ≡ anchors_found (least_of a) b (least_of bars)
 both_found a bars true = least_of-append a bars
 both_found a bars false = ap least_of (append-nil a)

@@ -1,5 +1,5 @@
 -- The rules of a pattern in the order in which they are tested, and the place of the first that is broken.
-use Rattle.std.specs.Prelude.{◌≡◌, ◌⊎◌, ℕ, ◌+◌, ◌*◌, ◌<◌, ◌≤◌, ◌==◌, ◌||◌, nat_lt, min, max, if◌then◌else◌, Bool, true, false, IsTrue, Option, Some, None, List, [], ◌∷◌, ◌++◌, length, take}
+use Rattle.std.specs.Prelude.{◌≡◌, ◌⊎◌, ℕ, ◌+◌, ◌*◌, ◌<◌, ◌≤◌, ◌==◌, ◌||◌, nat_lt, min, max, if◌then◌else◌, Bool, true, false, IsTrue, Option, Some, None, List, [], ◌∷◌, ◌++◌, length, take, slice_index}
 use Rattle.helix_regex.specs.declared.fault.RegexFault.{RegexFault}
 use Rattle.helix_regex.specs.declared.fault.RegexRule.{RegexRule}
 use Rattle.helix_regex.specs.declared.fault.RegexRule.TheVariants as rule
@@ -7,15 +7,15 @@ use Rattle.helix_regex.specs.Characters.{is_character}
 use Rattle.helix_regex.specs.Pattern.{End, Item, single, range, set_item, dash, Single, class, Count, star, plus, question, exactly, at_least, between, Quant, once, times, Pattern, end, bar, caret, dollar, one, group, item_text, single_text, quant_text, opening, pattern_text, Writes}
 use Rattle.helix_regex.specs.Meaning.{code_of, number_of, has_caret, has_dollar}
 
--- the first character that is none of the alphabet stands behind so many that are
-pub record LeavesAlphabet (text : List ℕ) (count : ℕ) : Type 0 where
-  pub within : count < length text
-  pub characters : (before : List ℕ) (c : ℕ) (after : List ℕ) → text ≡ before ++ c ∷ after → length before < count → IsTrue (is_character c)
-  pub other : (before : List ℕ) (c : ℕ) (after : List ℕ) → text ≡ before ++ c ∷ after → length before ≡ count → ¬ (IsTrue (is_character c))
-
 abbrev pub AreCharacters : List ℕ → Type 0
 AreCharacters [] = Unit {0}
 AreCharacters (c ∷ cs) = IsTrue (is_character c) × AreCharacters cs
+
+-- so many characters of the alphabet stand in front of one that is none
+pub record LeavesAlphabet (text : List ℕ) (count : ℕ) : Type 0 where
+  pub within : count < length text
+  pub characters : AreCharacters (take count text)
+  pub other : ¬ (IsTrue (is_character (slice_index text count)))
 
 -- some pattern of the grammar begins so
 abbrev pub IsViable : List ℕ → Type 0
@@ -154,3 +154,10 @@ Breaks rule.TooLarge text at = (pattern : Pattern) × Writes text pattern × (ba
 -- the first rule that a text breaks, and where
 abbrev pub FirstFault : List ℕ → RegexFault → Type 0
 FirstFault text fault = Breaks fault.rule text fault.at
+
+-- the pattern breaks no rule
+pub record IsSound (pattern : Pattern) : Type 0 where
+  pub anchors : bad_anchors pattern ≡ []
+  pub ranges : bad_ranges 0 pattern ≡ []
+  pub counts : bad_counts 0 pattern ≡ []
+  pub size : is_too_large pattern ≡ false

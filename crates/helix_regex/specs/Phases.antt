@@ -3,7 +3,11 @@ use Rattle.std.specs.Prelude.{ℕ, zero, suc, ◌+◌, ◌-◌, ◌*◌, min, ma
 use Rattle.std.specs.List.{list_any}
 use Rattle.helix_regex.specs.declared.token.Token.{Token}
 use Rattle.helix_regex.specs.declared.token.Token.TheVariants as token
+use Rattle.helix_regex.specs.declared.fault.RegexFault.{RegexFault}
+use Rattle.helix_regex.specs.declared.fault.RegexRule.{RegexRule}
+use Rattle.helix_regex.specs.declared.fault.RegexRule.TheVariants as rule
 use Rattle.helix_regex.specs.Faults.{lesser}
+use Rattle.helix_regex.specs.Positions.{total}
 
 abbrev pub or_else : Option ℕ → Option ℕ → Option ℕ
 or_else None b = b
@@ -67,3 +71,22 @@ outer_bar d (t ∷ ts) = or_else (bar_at d t) (outer_bar (level d t) ts)
 abbrev pub deepest : ℕ → List Token → ℕ
 deepest d [] = d
 deepest d (t ∷ ts) = max d (deepest (level d t) ts)
+
+abbrev pub fault_at : RegexRule → ℕ → RegexFault
+fault_at r at = record { rule = r; at = at }
+
+abbrev pub anchors_found : Option ℕ → Bool → Option ℕ → Option ℕ
+anchors_found stray true first_bar = lesser stray first_bar
+anchors_found stray false first_bar = stray
+
+-- the first rule that is broken, from what is found for each
+abbrev pub first_rule : Option ℕ → Option ℕ → Option ℕ → Bool → Option RegexFault
+first_rule (Some at) ranges counts large = Some (fault_at rule.Anchor at)
+first_rule None (Some at) counts large = Some (fault_at rule.BadRange at)
+first_rule None None (Some at) large = Some (fault_at rule.BadCount at)
+first_rule None None None true = Some (fault_at rule.TooLarge 0)
+first_rule None None None false = None
+
+abbrev pub token_fault : ℕ → List Token → Option RegexFault
+token_fault size ts = first_rule (anchors_found (least_some (stray_at size) ts) (list_any is_caret ts || list_any is_dollar ts) (outer_bar 0 ts))
+    (first_some turned_at ts) (first_some miscounted_at ts) (nat_lt 5000 (total [] 0 0 ts) || nat_lt 64 (deepest 0 ts))
