@@ -24,3 +24,4 @@ pub mod Phased
 pub mod Counted
 pub mod Faulty
 pub mod Letters
+pub mod RangeSets

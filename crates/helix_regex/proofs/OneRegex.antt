@@ -13,28 +13,28 @@ use Rattle.helix_regex.proofs.Decides.{bool_false, both_of, either_of}
 abbrev Pairs : Type 0
 Pairs = List (ℕ × ℕ)
 
-ordered : (r : ℕ × ℕ) (rs : Pairs) → are_separate (r ∷ rs) ≡ true → r.0 ≤ r.1
+pub ordered : (r : ℕ × ℕ) (rs : Pairs) → are_separate (r ∷ rs) ≡ true → r.0 ≤ r.1
 ordered r [] h = leb-true r.0 r.1 h
 ordered r (s ∷ rs) h = leb-true r.0 r.1 (both_of _ _ (both_of _ _ h).0).0
 
-gap : (r s : ℕ × ℕ) (rs : Pairs) → are_separate (r ∷ s ∷ rs) ≡ true → r.1 + 1 < s.0
+pub gap : (r s : ℕ × ℕ) (rs : Pairs) → are_separate (r ∷ s ∷ rs) ≡ true → r.1 + 1 < s.0
 gap r s rs h = ltb-true (r.1 + 1) s.0 (both_of _ _ (both_of _ _ h).0).1
 
-tail : (r : ℕ × ℕ) (rs : Pairs) → are_separate (r ∷ rs) ≡ true → are_separate rs ≡ true
+pub tail : (r : ℕ × ℕ) (rs : Pairs) → are_separate (r ∷ rs) ≡ true → are_separate rs ≡ true
 tail r [] h = refl
 tail r (s ∷ rs) h = (both_of _ _ h).1
 
-within : (c : ℕ) (r : ℕ × ℕ) → is_in_range c r ≡ true → (r.0 ≤ c) × (c ≤ r.1)
+pub within : (c : ℕ) (r : ℕ × ℕ) → is_in_range c r ≡ true → (r.0 ≤ c) × (c ≤ r.1)
 within c r h = (leb-true r.0 c (both_of _ _ h).0, leb-true c r.1 (both_of _ _ h).1)
 
 both_so : (a b : Bool) → a ≡ true → b ≡ true → (a && b) ≡ true
 both_so a b e f = ap (λ x. x && b) e ∙ f
 
-is_within : (c : ℕ) (r : ℕ × ℕ) → r.0 ≤ c → c ≤ r.1 → is_in_range c r ≡ true
+pub is_within : (c : ℕ) (r : ℕ × ℕ) → r.0 ≤ c → c ≤ r.1 → is_in_range c r ≡ true
 is_within c r a b = both_so (nat_le r.0 c) (nat_le c r.1) (le-leb r.0 c a) (le-leb c r.1 b)
 
 -- what is listed behind a range lies above it, and above one code more
-above : (r : ℕ × ℕ) (rs : Pairs) (c : ℕ) → are_separate (r ∷ rs) ≡ true → is_listed rs c ≡ true → r.1 + 1 < c
+pub above : (r : ℕ × ℕ) (rs : Pairs) (c : ℕ) → are_separate (r ∷ rs) ≡ true → is_listed rs c ≡ true → r.1 + 1 < c
 above r [] c h e = cc
 above r (s ∷ rs) c h e = elim (either_of _ _ e) [
   | inl f ↦ let (low, high) = within c s f in let g : r.1 + 1 < s.0 = gap r s rs h in omega arith

@@ -9,3 +9,4 @@ pub mod Tokens
 pub mod Lexing
 pub mod Phases
 pub mod Positions
+pub mod Sets

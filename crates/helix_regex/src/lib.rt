@@ -18,6 +18,7 @@ mod phases;
 mod ranges;
 mod regex;
 mod scan;
+mod sets;
 mod sign;
 mod size;
 mod token;
