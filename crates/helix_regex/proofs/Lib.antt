@@ -25,3 +25,5 @@ pub mod Counted
 pub mod Faulty
 pub mod Letters
 pub mod RangeSets
+pub mod Joining
+pub mod Sorting

@@ -1,5 +1,5 @@
 -- Sets of characters as lists of ranges. Only the crate's private clauses cite it.
-use Rattle.std.specs.Prelude.{◌≡◌, ℕ, ◌||◌, ◌&&◌, not, Bool, List}
+use Rattle.std.specs.Prelude.{◌≡◌, ℕ, ◌-◌, ◌≤◌, max, nat_le, nat_lt, ◌||◌, ◌&&◌, not, if◌then◌else◌, Bool, Option, Some, None, List, [], ◌∷◌}
 use Rattle.helix_base.specs.Ranges.{is_listed}
 use Rattle.helix_regex.specs.Characters.{is_character}
 
@@ -10,3 +10,25 @@ pub record Gains (set : ℕ → Bool) (old new : List (ℕ × ℕ)) : Type 0 whe
 -- all characters but those of some ranges
 abbrev pub GainsAllBut : List (ℕ × ℕ) → List (ℕ × ℕ) → List (ℕ × ℕ) → Type 0
 GainsAllBut ranges old new = Gains (λ c. is_character c && not (is_listed ranges c)) old new
+
+-- no range begins before the one in front of it
+abbrev pub Ascending : List (ℕ × ℕ) → Type 0
+Ascending [] = Unit {0}
+Ascending (r ∷ []) = Unit {0}
+Ascending (r ∷ s ∷ ranges) = (r.0 ≤ s.0) × Ascending (s ∷ ranges)
+
+-- the second begins in the first, or just behind it
+abbrev pub touches : ℕ × ℕ → ℕ × ℕ → Bool
+touches x r = nat_le (r.0 - x.1) 1
+
+-- the ranges behind one that is still open, joined where they touch
+abbrev pub joined : ℕ × ℕ → List (ℕ × ℕ) → List (ℕ × ℕ)
+joined x [] = x ∷ []
+joined x (r ∷ ranges) = if nat_lt r.1 r.0 then joined x ranges
+    else if touches x r then joined (x.0, max x.1 r.1) ranges
+    else x ∷ joined r ranges
+
+abbrev pub joined_from : Option (ℕ × ℕ) → List (ℕ × ℕ) → List (ℕ × ℕ)
+joined_from (Some x) ranges = joined x ranges
+joined_from None [] = []
+joined_from None (r ∷ ranges) = if nat_lt r.1 r.0 then joined_from None ranges else joined r ranges

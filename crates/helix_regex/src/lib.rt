@@ -10,6 +10,7 @@ mod check;
 mod containing;
 mod expr;
 mod fault;
+mod joined;
 mod laws;
 mod lexer;
 mod matching;
