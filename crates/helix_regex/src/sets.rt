@@ -1,9 +1,9 @@
 //! Sets of characters, as ranges in any order that may overlap, and as those that are separate.
 
-ghost use Rattle.std.specs.Prelude.{◌≡◌, ℕ, ◌||◌, ◌&&◌, not, true, nat_le, nat_lt, OnOk, IfOk, IsTrue, IsOk};
+ghost use Rattle.std.specs.Prelude.{◌≡◌, ◌==◌, ℕ, ◌||◌, ◌&&◌, not, true, nat_le, nat_lt, OnOk, IfOk, IsTrue, IsOk};
 ghost use Rattle.helix_base.specs.Ranges.{is_listed};
 ghost use Rattle.helix_base.specs.Alphabet.{is_in_range};
-ghost use Rattle.helix_regex.specs.Characters.{is_character, set_has};
+ghost use Rattle.helix_regex.specs.Characters.{is_character, is_word, set_has};
 ghost use Rattle.helix_regex.specs.Meaning.{are_separate, AreRangesOf};
 ghost use Rattle.helix_regex.specs.Sets.{Gains, GainsAllBut};
 
@@ -51,4 +51,43 @@ pub fn push_gaps(raw: &mut Vec<(u32, u32)>, ranges: &[(u32, u32)]) -> Result<(),
     }
     push_gap(raw, next, 0x11_0000)?;
     Ok(())
+}
+
+/// Appends one character.
+#[tactic(auto, using(crate::proofs::RangeSets::one_gained))]
+pub fn push_one(raw: &mut Vec<(u32, u32)>, code: u32) -> Result<(), AllocError>
+    ensures { OnOk result (Gains (λ c. c == code) raw.old.items raw.new.items) }
+{
+    push_range(raw, code, code)?;
+    Ok(())
+}
+
+/// Appends letters, digits and `_`.
+fn push_word(raw: &mut Vec<(u32, u32)>) -> Result<(), AllocError>
+    ensures { OnOk result (Gains is_word raw.old.items raw.new.items) }
+{
+    push_range(raw, 65, 90)?;
+    push_range(raw, 97, 122)?;
+    push_range(raw, 48, 57)?;
+    push_one(raw, 95)?;
+    Ok(())
+}
+
+/// Appends the set that a letter behind a backslash names. A letter that names none is read as `S`.
+pub fn push_set(raw: &mut Vec<(u32, u32)>, letter: u32) -> Result<(), AllocError>
+    ensures { OnOk result (Gains (set_has letter) raw.old.items raw.new.items) }
+{
+    if letter == 100 {
+        push_range(raw, 48, 57)
+    } else if letter == 119 {
+        push_word(raw)
+    } else if letter == 115 {
+        push_one(raw, 32)
+    } else if letter == 68 {
+        push_gaps(raw, &[(48, 57)])
+    } else if letter == 87 {
+        push_gaps(raw, &[(48, 57), (65, 90), (95, 95), (97, 122)])
+    } else {
+        push_gaps(raw, &[(32, 32)])
+    }
 }
