@@ -10,3 +10,4 @@ pub mod Lexing
 pub mod Phases
 pub mod Positions
 pub mod Sets
+pub mod Building

@@ -6,6 +6,7 @@
 //! a faster body can be compared with them.
 #![tactic(auto)]
 
+mod builder;
 mod check;
 mod containing;
 mod expr;
