@@ -37,7 +37,7 @@ quant_last (times count lazy) l = cap (l * factor (times count lazy))
 by_capped : (o : List ℕ) (a l n m : ℕ) (r : List Token) → n ≡ m → total o a (cap (l * n)) r ≡ total o a (cap (l * m)) r
 by_capped o a l n m r e = ap (λ x. total o a (cap (l * x)) r) e
 
-third : (a b c : Bool) → ((a || b) || c) ≡ false → b ≡ false
+pub third : (a b c : Bool) → ((a || b) || c) ≡ false → b ≡ false
 third true b c e = cc
 third false true c e = cc
 third false false c e = refl
@@ -109,11 +109,11 @@ quant_many once l p e = e ∙ times_one p
 quant_many (times count lazy) l p e = cap_again (l * factor (times count lazy)) ∙ (sym (cap_times l (factor (times count lazy))) ∙ (ap (λ x. cap (x * factor (times count lazy))) e ∙ cap_times p (factor (times count lazy))))
 
 -- a good count, and good ones behind it
-good_first : (b : Bool) (at : ℕ) (xs : List ℕ) → place_if b at ++ xs ≡ [] → (b ≡ false) × (xs ≡ [])
+pub good_first : (b : Bool) (at : ℕ) (xs : List ℕ) → place_if b at ++ xs ≡ [] → (b ≡ false) × (xs ≡ [])
 good_first true at xs e = cc
 good_first false at xs e = (refl, e)
 
-none_of : (xs ys : List ℕ) → xs ++ ys ≡ [] → (xs ≡ []) × (ys ≡ [])
+pub none_of : (xs ys : List ℕ) → xs ++ ys ≡ [] → (xs ≡ []) × (ys ≡ [])
 none_of [] ys e = (refl, e)
 none_of (x ∷ xs) ys e = cc
 

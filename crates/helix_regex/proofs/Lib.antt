@@ -27,3 +27,5 @@ pub mod Letters
 pub mod RangeSets
 pub mod Joining
 pub mod Sorting
+pub mod Built
+pub mod Parsed

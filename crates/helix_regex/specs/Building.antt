@@ -100,3 +100,12 @@ Steps old (token.Repeat least most at) new = (front : List Expr) (piece : Expr) 
 abbrev pub Runs : Builder → List Token → Builder → Type 0
 Runs old [] new = old ≡ new
 Runs old (t ∷ ts) new = (next : Builder) × Steps old t next × Runs next ts new
+
+-- nothing is built
+pub record IsStart (b : Builder) : Type 0 where
+  pub outer : b.outer ≡ []
+  pub done : b.done ≡ []
+  pub pieces : b.pieces ≡ []
+
+abbrev pub IsBuilt : List Token → Builder → Type 0
+IsBuilt ts b = (start : Builder) × IsStart start × Runs start ts b

@@ -11,3 +11,4 @@ pub mod Phases
 pub mod Positions
 pub mod Sets
 pub mod Building
+pub mod Parsing

@@ -4,16 +4,19 @@ ghost use Rattle.std.specs.Prelude.{◌≡◌, ℕ, ◌++◌, ◌==◌, ◌&&◌
 ghost use Rattle.helix_regex.specs.declared.builder.Builder.{Builder as Built};
 ghost use Rattle.helix_regex.specs.Characters.{is_character, set_has};
 ghost use Rattle.helix_regex.specs.Pattern.{Pattern};
-ghost use Rattle.helix_regex.specs.Tokens.{tokens};
-ghost use Rattle.helix_regex.specs.Meaning.{in_sequence, are_separate, AreRangesOf};
+ghost use Rattle.helix_regex.specs.Tokens.{tokens as tokens_of};
+ghost use Rattle.helix_regex.specs.Faults.{bad_counts};
+ghost use Rattle.helix_regex.specs.Meaning.{in_sequence, are_separate, AreRangesOf, MeansRegex};
 ghost use Rattle.helix_base.specs.Ranges.{is_listed};
-ghost use Rattle.helix_regex.specs.Building.{choice, sequences, class_has, Steps, PushesSet, Pushes, Gained, Opens, Ends, Runs};
+ghost use Rattle.helix_regex.specs.Building.{choice, sequences, class_has, Steps, PushesSet, Pushes, Gained, Opens, Ends, IsBuilt};
 ghost use Rattle.helix_regex.specs.declared.token.Token.TheVariants.{Close, Repeat};
 ghost use Rattle.helix_base.specs.Alphabet.{is_in_range};
 
 use crate::expr::{Expr, Exprs};
 use crate::joined::separated;
+use crate::phases::{has_caret, has_dollar};
 use crate::ranges::Ranges;
+use crate::regex::Regex;
 use crate::sets::{push_clipped, push_gaps, push_one, push_set};
 use crate::token::Token;
 use helix_base::Memory;
@@ -325,4 +328,34 @@ fn step(alloc: Global, builder: Builder, token: Token) -> Result<Builder, Memory
         Token::ClassEnd => end_class(alloc, builder),
         Token::Repeat(least, most, _) => repeat_last(alloc, builder, least, most),
     }
+}
+
+/// What is built behind tokens.
+fn run(alloc: Global, tokens: &[Token]) -> Result<Builder, Memory>
+    ensures { IfOk result (IsBuilt tokens.now) }
+{
+    let mut builder = Builder::new(alloc);
+    for token in tokens {
+        builder = step(alloc, builder, *token)?;
+    }
+    Ok(builder)
+}
+
+/// The expression of a pattern, from its tokens. Its counts are at most 1,000.
+pub fn build(alloc: Global, tokens: &[Token]) -> Result<Regex, Memory>
+    ensures { IfOk result (λ regex. (pattern : Pattern) → tokens.now ≡ tokens_of 0 pattern → bad_counts 0 pattern ≡ [] → MeansRegex pattern regex) }
+{
+    let Builder {
+        outer: _,
+        done,
+        pieces,
+        raw: _,
+        excluded: _,
+    } = run(alloc, tokens)?;
+    let expr = alternatives(done, pieces)?;
+    Ok(Regex {
+        expr,
+        at_start: has_caret(tokens),
+        at_end: has_dollar(tokens),
+    })
 }

@@ -18,6 +18,7 @@ mod matching;
 mod mode;
 mod phases;
 mod ranges;
+mod reader;
 mod regex;
 mod scan;
 mod sets;
@@ -31,6 +32,7 @@ pub use fault::{RegexError, RegexFault, RegexRule};
 pub use laws::{one_pattern, one_regex};
 pub use matching::matches;
 pub use ranges::Ranges;
+pub use reader::parse;
 pub use regex::Regex;
 
 #[cfg(test)]
