@@ -42,13 +42,13 @@ found_is p = same_rule _ (least_of (bad_anchors p)) _ (first_of (bad_ranges 0 p)
     ∙ by_size (least_of (bad_anchors p)) (first_of (bad_ranges 0 p)) (first_of (bad_counts 0 p)) _ (is_too_large p) (λ none. size_phase p (no_first (bad_counts 0 p) none))
 
 -- a fault that is found is the first, and where none is found the pattern is sound
-first_fault : (text : List ℕ) (p : Pattern) (a b c : Option ℕ) (d : Bool) → Writes text p → least_of (bad_anchors p) ≡ a → first_of (bad_ranges 0 p) ≡ b → first_of (bad_counts 0 p) ≡ c → is_too_large p ≡ d
+first_fault : (text : List ℕ) (p : Pattern) (a b c : Option ℕ) (d : Bool) → AreCharacters text → Writes text p → least_of (bad_anchors p) ≡ a → first_of (bad_ranges 0 p) ≡ b → first_of (bad_counts 0 p) ≡ c → is_too_large p ≡ d
     → IfSome (first_rule a b c d) (FirstFault text)
-first_fault text p (Some at) b c d w e f g h = (p, w, e)
-first_fault text p None (Some at) c d w e f g h = (p, w, no_least (bad_anchors p) e, f)
-first_fault text p None None (Some at) d w e f g h = (p, w, no_least (bad_anchors p) e, no_first (bad_ranges 0 p) f, g)
-first_fault text p None None None true w e f g h = (p, w, no_least (bad_anchors p) e, no_first (bad_ranges 0 p) f, no_first (bad_counts 0 p) g, h, refl)
-first_fault text p None None None false w e f g h = tt
+first_fault text p (Some at) b c d l w e f g h = (l, (p, w, e))
+first_fault text p None (Some at) c d l w e f g h = (l, (p, w, no_least (bad_anchors p) e, f))
+first_fault text p None None (Some at) d l w e f g h = (l, (p, w, no_least (bad_anchors p) e, no_first (bad_ranges 0 p) f, g))
+first_fault text p None None None true l w e f g h = (l, (p, w, no_least (bad_anchors p) e, no_first (bad_ranges 0 p) f, no_first (bad_counts 0 p) g, h, refl))
+first_fault text p None None None false l w e f g h = tt
 
 no_fault : (p : Pattern) (a b c : Option ℕ) (d : Bool) → least_of (bad_anchors p) ≡ a → first_of (bad_ranges 0 p) ≡ b → first_of (bad_counts 0 p) ≡ c → is_too_large p ≡ d
     → IfNone (first_rule a b c d) (IsSound p)
@@ -58,8 +58,8 @@ no_fault p None None (Some at) d e f g h = tt
 no_fault p None None None true e f g h = tt
 no_fault p None None None false e f g h = record { anchors = no_least (bad_anchors p) e; ranges = no_first (bad_ranges 0 p) f; counts = no_first (bad_counts 0 p) g; size = h }
 
-pub found_fault : (text : List ℕ) (p : Pattern) (found : Option RegexFault) → Writes text p → found ≡ pattern_fault p → IfSome found (FirstFault text)
-found_fault text p found w e = subst (λ o. IfSome o (FirstFault text)) (sym e) (first_fault text p _ _ _ _ w refl refl refl refl)
+pub found_fault : (text : List ℕ) (p : Pattern) (found : Option RegexFault) → AreCharacters text → Writes text p → found ≡ pattern_fault p → IfSome found (FirstFault text)
+found_fault text p found l w e = subst (λ o. IfSome o (FirstFault text)) (sym e) (first_fault text p _ _ _ _ l w refl refl refl refl)
 
 pub found_none : (p : Pattern) (found : Option RegexFault) → found ≡ pattern_fault p → IfNone found (IsSound p)
 found_none p found e = subst (λ o. IfNone o (IsSound p)) (sym e) (no_fault p _ _ _ _ refl refl refl refl)

@@ -29,3 +29,4 @@ pub mod Joining
 pub mod Sorting
 pub mod Built
 pub mod Parsed
+pub mod OneFault

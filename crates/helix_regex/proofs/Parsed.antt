@@ -24,10 +24,10 @@ no_first xs at e f = let g : None ≡ Some at = sym (ap first_of e) ∙ f in cc
 no_break : (text : List ℕ) (p : Pattern) (r : RegexRule) (at : ℕ) → AreCharacters text → Writes text p → IsSound p → ¬ (Breaks r text at)
 no_break text p rule.OutsideAlphabet at letters w sound b = b.other (character_at text at letters b.within)
 no_break text p rule.Syntax at letters w sound b = b.1.no_pattern p w
-no_break text p rule.Anchor at letters w sound (q, v, e) = no_least (bad_anchors q) at (subst (λ x. bad_anchors x ≡ []) (reading.one_pattern text p q w v) sound.anchors) e
-no_break text p rule.BadRange at letters w sound (q, v, a, e) = no_first (bad_ranges 0 q) at (subst (λ x. bad_ranges 0 x ≡ []) (reading.one_pattern text p q w v) sound.ranges) e
-no_break text p rule.BadCount at letters w sound (q, v, a, c, e) = no_first (bad_counts 0 q) at (subst (λ x. bad_counts 0 x ≡ []) (reading.one_pattern text p q w v) sound.counts) e
-no_break text p rule.TooLarge at letters w sound (q, v, a, c, d, e, z) =
+no_break text p rule.Anchor at letters w sound (l, (q, v, e)) = no_least (bad_anchors q) at (subst (λ x. bad_anchors x ≡ []) (reading.one_pattern text p q w v) sound.anchors) e
+no_break text p rule.BadRange at letters w sound (l, (q, v, a, e)) = no_first (bad_ranges 0 q) at (subst (λ x. bad_ranges 0 x ≡ []) (reading.one_pattern text p q w v) sound.ranges) e
+no_break text p rule.BadCount at letters w sound (l, (q, v, a, c, e)) = no_first (bad_counts 0 q) at (subst (λ x. bad_counts 0 x ≡ []) (reading.one_pattern text p q w v) sound.counts) e
+no_break text p rule.TooLarge at letters w sound (l, (q, v, a, c, d, e, z)) =
     let f : is_too_large q ≡ false = subst (λ x. is_too_large x ≡ false) (reading.one_pattern text p q w v) sound.size in
     let g : true ≡ false = sym e ∙ f in cc
 
@@ -38,9 +38,9 @@ no_fault text p letters w sound fault = no_break text p fault.rule fault.at lett
 found : (text : List ℕ) (p : Pattern) (ts : List Token) (o : Option RegexFault) → Writes text p → ts ≡ tokens 0 p → o ≡ token_fault (length text) ts → o ≡ pattern_fault p
 found text p ts o w e f = f ∙ (ap (λ n. token_fault n ts) (ap length w.is) ∙ (ap (token_fault (length (pattern_text p))) e ∙ found_is p))
 
-pub is_first : (text : List ℕ) (written : (p : Pattern) × Writes text p) (ts : List Token) (o : Option RegexFault) (fault : RegexFault) → ((p : Pattern) → Writes text p → ts ≡ tokens 0 p)
+pub is_first : (text : List ℕ) → AreCharacters text → (written : (p : Pattern) × Writes text p) (ts : List Token) (o : Option RegexFault) (fault : RegexFault) → ((p : Pattern) → Writes text p → ts ≡ tokens 0 p)
     → o ≡ token_fault (length text) ts → o ≡ Some fault → FirstFault text fault
-is_first text (p, w) ts o fault e f g = subst (λ x. IfSome x (FirstFault text)) g (found_fault text p o w (found text p ts o w (e p w) f))
+is_first text l (p, w) ts o fault e f g = subst (λ x. IfSome x (FirstFault text)) g (found_fault text p o l w (found text p ts o w (e p w) f))
 
 pub is_sound : (text : List ℕ) (p : Pattern) (ts : List Token) (o : Option RegexFault) → Writes text p → ts ≡ tokens 0 p → o ≡ token_fault (length text) ts → o ≡ None → IsSound p
 is_sound text p ts o w e f g = subst (λ x. IfNone x (IsSound p)) g (found_none p o (found text p ts o w e f))

@@ -145,11 +145,12 @@ least_of (place ∷ places) = lesser (Some place) (least_of places)
 abbrev pub Breaks : RegexRule → List ℕ → ℕ → Type 0
 Breaks rule.OutsideAlphabet text at = LeavesAlphabet text at
 Breaks rule.Syntax text at = AreCharacters text × LeavesGrammar text at
-Breaks rule.Anchor text at = (pattern : Pattern) × Writes text pattern × (least_of (bad_anchors pattern) ≡ Some at)
-Breaks rule.BadRange text at = (pattern : Pattern) × Writes text pattern × (bad_anchors pattern ≡ []) × (first_of (bad_ranges 0 pattern) ≡ Some at)
-Breaks rule.BadCount text at = (pattern : Pattern) × Writes text pattern × (bad_anchors pattern ≡ []) × (bad_ranges 0 pattern ≡ []) × (first_of (bad_counts 0 pattern) ≡ Some at)
-Breaks rule.TooLarge text at = (pattern : Pattern) × Writes text pattern × (bad_anchors pattern ≡ []) × (bad_ranges 0 pattern ≡ []) × (bad_counts 0 pattern ≡ [])
-    × IsTrue (is_too_large pattern) × (at ≡ 0)
+Breaks rule.Anchor text at = AreCharacters text × ((pattern : Pattern) × Writes text pattern × (least_of (bad_anchors pattern) ≡ Some at))
+Breaks rule.BadRange text at = AreCharacters text × ((pattern : Pattern) × Writes text pattern × (bad_anchors pattern ≡ []) × (first_of (bad_ranges 0 pattern) ≡ Some at))
+Breaks rule.BadCount text at = AreCharacters text × ((pattern : Pattern) × Writes text pattern × (bad_anchors pattern ≡ []) × (bad_ranges 0 pattern ≡ [])
+    × (first_of (bad_counts 0 pattern) ≡ Some at))
+Breaks rule.TooLarge text at = AreCharacters text × ((pattern : Pattern) × Writes text pattern × (bad_anchors pattern ≡ []) × (bad_ranges 0 pattern ≡ [])
+    × (bad_counts 0 pattern ≡ []) × IsTrue (is_too_large pattern) × (at ≡ 0))
 
 -- the first rule that a text breaks, and where
 abbrev pub FirstFault : List ℕ → RegexFault → Type 0

@@ -29,7 +29,7 @@ mod token;
 pub use containing::contains_match;
 pub use expr::{Expr, Exprs, copy_exprs};
 pub use fault::{RegexError, RegexFault, RegexRule};
-pub use laws::{one_pattern, one_regex};
+pub use laws::{one_fault, one_pattern, one_regex};
 pub use matching::matches;
 pub use ranges::Ranges;
 pub use reader::parse;

@@ -4,7 +4,7 @@ use Rattle.helix_regex.proofs.Parsed.{is_first, spells, faultless}
 use Rattle.helix_regex.proofs.reader.read.Goals as goal
 
 pub returns-in-Some-found-clause-cause : goal.returns-in-Some-found-clause-cause
-returns-in-Some-found-clause-cause c = is_first c.args.codes.now c.in_default.ensures.pattern c.in_ok-tokens.tokens.items c.in_ok-found.found c.in-Some-found.fault c.in_ok-tokens.ensures
+returns-in-Some-found-clause-cause c = is_first c.args.codes.now c.in_default.ensures.characters c.in_default.ensures.pattern c.in_ok-tokens.tokens.items c.in_ok-found.found c.in-Some-found.fault c.in_ok-tokens.ensures
     (c.in_ok-found.ensures ∙ ap (token_fault (length c.args.codes.now)) c.as_slice.ensures.value) c.in-Some-found.is
 
 pub returns-clause-spelt : goal.returns-clause-spelt
