@@ -36,4 +36,6 @@ pub use reader::parse;
 pub use regex::Regex;
 
 #[cfg(test)]
+mod pattern_tests;
+#[cfg(test)]
 mod tests;
