@@ -8,3 +8,5 @@ pub mod CivilDates
 pub mod WorkingDays
 pub mod Midnights
 pub mod ClassLaws
+pub mod NearMultiples
+pub mod PowersOfTen

@@ -6,3 +6,5 @@ pub mod Calendar
 pub mod Grids
 pub mod Universe
 pub mod Shift
+pub mod Scale
+pub mod LadderLaws

@@ -7,6 +7,8 @@ ghost use Rattle.helix_values.specs.View.{cell_of};
 
 use crate::calendar::{LAST_MOMENT, MILLIS_OF_DAY, date_of};
 use crate::cell::CellRef;
+use crate::decades::power_of_ten;
+use crate::multiples::is_multiple_of;
 
 /// Whether a number or a moment is on the grid of a level of its ladder.
 pub fn is_on_grid(level: u32, cell: CellRef<'_>) -> bool
@@ -24,15 +26,7 @@ fn is_on_number_grid(level: u32, units: i128) -> bool
     requires { level < 16 }
     ensures { IsTrue result ↔ IsOnNumberGrid level units }
 {
-    units.unsigned_abs() % power_of_ten(level) == 0
-}
-
-fn power_of_ten(level: u32) -> u128
-    requires { level < 16 }
-    ensures value { result ≡ 10 ^ level }
-    ensures positive { 0 < result }
-{
-    10_u128.pow(level)
+    is_multiple_of(power_of_ten(level), units)
 }
 
 fn is_on_moment_grid(level: u32, at: i64) -> bool
@@ -40,20 +34,13 @@ fn is_on_moment_grid(level: u32, at: i64) -> bool
 {
     match level {
         0 => true,
-        1 => is_multiple_of(1_000, at),
-        2 => is_multiple_of(60_000, at),
-        3 => is_multiple_of(3_600_000, at),
-        4 => is_multiple_of(86_400_000, at),
+        1 => is_multiple_of(1_000, i128::from(at)),
+        2 => is_multiple_of(60_000, i128::from(at)),
+        3 => is_multiple_of(3_600_000, i128::from(at)),
+        4 => is_multiple_of(86_400_000, i128::from(at)),
         5 => is_month_start(at),
         _ => is_year_start(at),
     }
-}
-
-fn is_multiple_of(step: u64, at: i64) -> bool
-    requires { 0 < step }
-    ensures { IsTrue result ↔ IsMultipleOf step at }
-{
-    at.unsigned_abs() % step == 0
 }
 
 fn is_month_start(at: i64) -> bool

@@ -11,11 +11,14 @@ mod calendar;
 mod cell;
 mod cells;
 mod codes;
+mod decades;
 mod grids;
 mod kind;
 pub mod laws;
+mod multiples;
 mod offset;
 mod order;
+mod scale;
 mod shift;
 mod universe;
 
@@ -23,10 +26,12 @@ pub use calendar::{Date, date_of, day_number, days_of_month};
 pub use cell::{Cell, CellRef};
 pub use cells::{Cells, Row};
 pub use codes::valid;
+pub use decades::Decades;
 pub use grids::is_on_grid;
 pub use kind::{Code, Kind};
 pub use offset::Offset;
 pub use order::{cmp_cell, cmp_row};
+pub use scale::Scale;
 pub use shift::shifted;
 pub use universe::in_universe;
 
