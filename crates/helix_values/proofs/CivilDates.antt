@@ -23,7 +23,7 @@ module _ (year month day : ℕ) (date : IsDate year month day) where
       )
 
   -- the year after begins later
-  year_end : day_number year month day < year_start year + days_of_year year
+  pub year_end : day_number year month day < year_start year + days_of_year year
   year_end = omega (arith, month_end)
 
   later_year : (later : ℕ) → year < later → day_number year month day < year_start later

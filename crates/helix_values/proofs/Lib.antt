@@ -10,3 +10,6 @@ pub mod Midnights
 pub mod ClassLaws
 pub mod NearMultiples
 pub mod PowersOfTen
+pub mod JiffDates
+pub mod LadderSteps
+pub mod Raised

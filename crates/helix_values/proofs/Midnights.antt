@@ -2,7 +2,7 @@
 use Rattle.std.proofs.Common.{◌≡◌, ◌≢◌, ℕ, ◌<◌, ℤ, IsTrue, ◌==◌, sym, ap, ◌∙◌, subst, arith}
 use Rattle.std.proofs.lemmas.Bool.Decides.{nat_tests}
 use Rattle.std.specs.Prelude.{FitsSigned, unsigned_abs}
-use Rattle.std.specs.Int.{w64}
+use Rattle.std.specs.Int.{w128}
 use mir.Val.{to_z, of_z}
 use Rattle.std.proofs.lemmas.Int.{to_z-of_z}
 use Rattle.helix_values.specs.Calendar.{IsDate, day_number, days_of_calendar, midnight, month_of, day_of_month}
@@ -16,12 +16,12 @@ equal_from a b same = grind (arith, nat_tests)
 same_day : (a b : ℕ) → midnight a ≡ midnight b → a ≡ b
 same_day a b same = omega (arith, ap unsigned_abs same)
 
--- a moment that fits 64 bits is what its bits say
-pub read_moment : (at : ℤ) (day : ℕ) → FitsSigned w64 at → to_z w64 (of_z w64 at) ≡ midnight day → at ≡ midnight day
-read_moment at day fits is = sym (to_z-of_z w64 at fits) ∙ is
+-- a moment that fits 128 bits is what its bits say
+pub read_moment : (at : ℤ) (day : ℕ) → FitsSigned w128 at → to_z w128 (of_z w128 at) ≡ midnight day → at ≡ midnight day
+read_moment at day fits is = sym (to_z-of_z w128 at fits) ∙ is
 
-pub read_none : (at : ℤ) → FitsSigned w64 at → ((day : ℕ) → day < days_of_calendar → to_z w64 (of_z w64 at) ≡ midnight day → ⊥) → (day : ℕ) → day < days_of_calendar → at ≢ midnight day
-read_none at fits none day within is = none day within (to_z-of_z w64 at fits ∙ is)
+pub read_none : (at : ℤ) → FitsSigned w128 at → ((day : ℕ) → day < days_of_calendar → to_z w128 (of_z w128 at) ≡ midnight day → ⊥) → (day : ℕ) → day < days_of_calendar → at ≢ midnight day
+read_none at fits none day within is = none day within (to_z-of_z w128 at fits ∙ is)
 
 -- the day that begins a month is the first of one, and so on
 pub month_start_day : (at : ℤ) (day : ℕ) → at ≡ midnight day → IsMonthStart at → day_of_month day ≡ 1

@@ -1,5 +1,5 @@
 -- The powers of ten that are steps of the grids of numbers.
-use Rattle.std.proofs.Common.{◌≡◌, ℕ, zero, suc, ◌^◌, ◌<◌, ◌≤◌, ℤ, pos, neg_ℤ, ◌≤ℤ◌, [], ◌∷◌, get_or, refl, arith}
+use Rattle.std.proofs.Common.{◌≡◌, ℕ, zero, suc, ◌^◌, ◌<◌, ℤ, pos, neg_ℤ, ◌≤ℤ◌, [], ◌∷◌, get_or, refl, arith}
 use Rattle.std.proofs.lemmas.Int.{ints}
 use Rattle.helix_values.specs.Grids.{IsMultipleOf, IsOnNumberGrid}
 use Rattle.helix_values.specs.Scale.{IsLeast, IsAtOrAfter}

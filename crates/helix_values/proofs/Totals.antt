@@ -53,6 +53,3 @@ sum_up_to-next f (suc n) from_1 =
     let here : suc n + 1 - 1 ≡ suc n = omega arith in
     let before : suc n - 1 ≡ n = omega arith in
     rw (here, before) (sum_up_to-suc f n)
-
--- for a loop that adds the values
-pub ruleset sums = (sum_up_to-zero, sum_up_to-next)

@@ -17,7 +17,7 @@ pub fn is_on_grid(level: u32, cell: CellRef<'_>) -> bool
 {
     match cell {
         CellRef::Number(units) => is_on_number_grid(level, units),
-        CellRef::Moment(at) => is_on_moment_grid(level, at),
+        CellRef::Moment(at) => is_on_moment_grid(level, i128::from(at)),
         _ => false,
     }
 }
@@ -29,21 +29,21 @@ fn is_on_number_grid(level: u32, units: i128) -> bool
     is_multiple_of(power_of_ten(level), units)
 }
 
-fn is_on_moment_grid(level: u32, at: i64) -> bool
+pub(crate) fn is_on_moment_grid(level: u32, at: i128) -> bool
     ensures { IsTrue result ↔ IsOnMomentGrid level at }
 {
     match level {
         0 => true,
-        1 => is_multiple_of(1_000, i128::from(at)),
-        2 => is_multiple_of(60_000, i128::from(at)),
-        3 => is_multiple_of(3_600_000, i128::from(at)),
-        4 => is_multiple_of(86_400_000, i128::from(at)),
+        1 => is_multiple_of(1_000, at),
+        2 => is_multiple_of(60_000, at),
+        3 => is_multiple_of(3_600_000, at),
+        4 => is_multiple_of(86_400_000, at),
         5 => is_month_start(at),
         _ => is_year_start(at),
     }
 }
 
-fn is_month_start(at: i64) -> bool
+fn is_month_start(at: i128) -> bool
     ensures { IsTrue result ↔ IsMonthStart at }
 {
     match day_at(at) {
@@ -52,7 +52,7 @@ fn is_month_start(at: i64) -> bool
     }
 }
 
-fn is_year_start(at: i64) -> bool
+fn is_year_start(at: i128) -> bool
     ensures { IsTrue result ↔ IsYearStart at }
 {
     match day_at(at) {
@@ -65,13 +65,13 @@ fn is_year_start(at: i64) -> bool
 }
 
 /// The day that a midnight of the calendar begins.
-fn day_at(at: i64) -> Option<u32>
+fn day_at(at: i128) -> Option<u32>
     ensures begins { IfSome result (λ day. at ≡ midnight day) }
     ensures in_calendar { IfSome result (λ day. day < days_of_calendar) }
     ensures none { IfNone result ((day : ℕ) → day < days_of_calendar → at ≢ midnight day) }
 {
-    if at < 0 || at > LAST_MOMENT || at % MILLIS_OF_DAY != 0 {
+    if at < 0 || at > i128::from(LAST_MOMENT) || at % i128::from(MILLIS_OF_DAY) != 0 {
         return None;
     }
-    Some((at / MILLIS_OF_DAY) as u32)
+    Some((at / i128::from(MILLIS_OF_DAY)) as u32)
 }

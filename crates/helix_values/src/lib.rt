@@ -8,6 +8,7 @@
 #![tactic(auto)]
 
 mod calendar;
+mod calendar_ladder;
 mod cell;
 mod cells;
 mod codes;
@@ -23,6 +24,7 @@ mod shift;
 mod universe;
 
 pub use calendar::{Date, date_of, day_number, days_of_month};
+pub use calendar_ladder::Calendar;
 pub use cell::{Cell, CellRef};
 pub use cells::{Cells, Row};
 pub use codes::valid;

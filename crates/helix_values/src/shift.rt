@@ -4,7 +4,7 @@ ghost use Rattle.std.specs.Prelude.{◌≡◌, ◌+◌, ◌*◌, ◌^◌, ◌<�
 ghost use Rattle.helix_values.specs.Calendar.{last_below, days_of_calendar, day_of as day_of_moment, midnight as first_of_day};
 ghost use Rattle.helix_values.specs.Shift.{IsShiftable, shifted as shifted_value, shifted_months as month_shift, midnight_in_month as first_in_month, day_in_month as same_day_in_month, shifted_working_days as working_day_shift, is_working_day as working_day, working_days_before, is_working_day_after, is_working_day_ahead};
 
-use crate::calendar::{DAYS, MILLIS_OF_DAY, date_of, day_number, days_of_month};
+use crate::calendar::{DAYS, MILLIS_OF_DAY, date_of, day_number, days_of_month, midnight};
 use crate::offset::Offset;
 
 /// What stands for a day before 0001-01-01.
@@ -34,12 +34,6 @@ fn day_of(value: i128) -> u32
         return 0;
     }
     (value / i128::from(MILLIS_OF_DAY)).min(i128::from(DAYS - 1)) as u32
-}
-
-fn midnight(day: u32) -> i64
-    ensures { result ≡ first_of_day day }
-{
-    MILLIS_OF_DAY * i64::from(day)
 }
 
 fn shifted_months(months: i128, day: u32) -> i64

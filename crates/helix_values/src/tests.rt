@@ -1,4 +1,5 @@
 mod dates;
+mod ladders;
 
 use crate::{Cell, CellRef, Cells, Code, Kind, Row, cmp_cell, cmp_row, in_universe, valid};
 use helix_base::{Alphabet, Text};

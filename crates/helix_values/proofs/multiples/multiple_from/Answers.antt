@@ -1,4 +1,4 @@
-use Rattle.std.proofs.Common.{◌≡◌, ◌%◌, ap, ◌∙◌, arith, ℤ, ◌<ℤ◌, ◌≤ℤ◌, pos, FitsSigned}
+use Rattle.std.proofs.Common.{◌%◌, ap, ◌∙◌, arith, ◌<ℤ◌, ◌≤ℤ◌, pos, FitsSigned}
 use Rattle.std.specs.Int.{w128}
 use Rattle.std.proofs.lemmas.Int.{ints, to_z-of_z}
 use Rattle.helix_values.proofs.NearMultiples.{size_is, least_multiple_above, least_multiple_towards_zero}

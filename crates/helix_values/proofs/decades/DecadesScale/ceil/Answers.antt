@@ -1,4 +1,4 @@
-use Rattle.std.proofs.Common.{◌^◌, arith, ℤ, ◌≤ℤ◌, pos, FitsSigned}
+use Rattle.std.proofs.Common.{◌^◌, arith, ◌≤ℤ◌, pos, FitsSigned}
 use Rattle.std.specs.Int.{w128}
 use Rattle.std.proofs.lemmas.Int.{ints, clamps, to_z-of_z}
 use Rattle.helix_values.proofs.PowersOfTen.{least_in_range}
