@@ -13,3 +13,14 @@ pub mod PowersOfTen
 pub mod JiffDates
 pub mod LadderSteps
 pub mod Raised
+pub mod ShiftedSums
+pub mod DecimalTexts
+pub mod FixedDigits
+pub mod NumberTexts
+pub mod DaysHaveDates
+pub mod MomentTexts
+pub mod TextLaws
+pub mod EndZeros
+pub mod ScalarTexts
+pub mod ReadMoments
+pub mod ReadTimes

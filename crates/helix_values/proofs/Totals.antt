@@ -1,5 +1,5 @@
 -- Sums of the first values of a function, and the last number that passes a test.
-use Rattle.std.proofs.Common.{◌≡◌, ℕ, zero, suc, ◌+◌, ◌-◌, ◌*◌, ◌<◌, ◌≤◌, Bool, true, false, Some, None, refl, subst, arith, add-zero}
+use Rattle.std.proofs.Common.{◌≡◌, ℕ, zero, suc, ◌+◌, ◌-◌, ◌*◌, ◌<◌, ◌≤◌, Bool, true, false, Some, None, refl, subst, ◌∙◌, arith, add-zero}
 use Rattle.std.proofs.Common.{⊎_elim}
 use Rattle.std.proofs.lemmas.Bool.{cases_lt}
 use Rattle.helix_values.specs.Calendar.{sum_up_to, last_below}
@@ -53,3 +53,41 @@ sum_up_to-next f (suc n) from_1 =
     let here : suc n + 1 - 1 ≡ suc n = omega arith in
     let before : suc n - 1 ≡ n = omega arith in
     rw (here, before) (sum_up_to-suc f n)
+
+-- where one passes, the last one that does is found
+pub record IsLastBelow (test : ℕ → Bool) (n k : ℕ) : Type 0 where
+  pub found : last_below test n ≡ Some k
+  pub below : k < n
+  pub passes : test k ≡ true
+  pub last : (j : ℕ) → k < j → j < n → test j ≡ false
+
+-- a test that fails at the end leaves the last one as it was
+last_below_more : (test : ℕ → Bool) (n k : ℕ) → test n ≡ false → IsLastBelow test n k → IsLastBelow test (suc n) k
+unfolding last_below
+last_below_more test n k is rest = record {
+  found = (rw is refl) ∙ rest.found;
+  below = omega (arith, rest.below);
+  passes = rest.passes;
+  last = λ j above within.
+      ⊎_elim {A = j < n} {B = n ≤ j} (λ inside. rest.last j above inside) (λ end. let same : n ≡ j = omega arith in subst (λ i. test i ≡ false) same is) (cases_lt j n);
+}
+
+last_below_here : (test : ℕ → Bool) (n : ℕ) → test n ≡ true → IsLastBelow test (suc n) n
+unfolding last_below
+last_below_here test n is = record { found = rw is refl; below = omega arith; passes = is; last = λ j above within. absurd (omega arith) }
+
+-- one that passes has a last one at or behind it
+pub last_below_is : (test : ℕ → Bool) (n first : ℕ) → first < n → test first ≡ true → (k : ℕ) × (first ≤ k) × IsLastBelow test n k
+last_below_is test zero first below passes = absurd (omega arith)
+last_below_is test (suc n) first below passes = here (test n) refl (λ before. last_below_is test n first before passes)
+  where
+    more : test n ≡ false → (k : ℕ) × (first ≤ k) × IsLastBelow test n k → (k : ℕ) × (first ≤ k) × IsLastBelow test (suc n) k
+    more is (k, from, rest) = (k, from, last_below_more test n k is rest)
+
+    here : (b : Bool) → test n ≡ b → (first < n → (k : ℕ) × (first ≤ k) × IsLastBelow test n k) → (k : ℕ) × (first ≤ k) × IsLastBelow test (suc n) k
+    here true is rest = (n, omega arith, last_below_here test n is)
+    here false is rest =
+        ⊎_elim {A = first < n} {B = n ≤ first}
+        (λ before. more is (rest before))
+        (λ at. absurd (let same : first ≡ n = omega arith in let both : test n ≡ true = subst (λ i. test i ≡ true) same passes in cc))
+        (cases_lt first n)

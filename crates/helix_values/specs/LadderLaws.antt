@@ -2,6 +2,8 @@
 use Rattle.std.proofs.Common.{◌≡◌, ℕ, ◌+◌, ◌-◌, ◌*◌, ◌%◌, ◌^◌, ◌<◌, ◌≤◌, ℤ, zero, suc, arith}
 use Rattle.std.proofs.Common.{subst}
 use Rattle.std.specs.Prelude.{unsigned_abs}
+use Rattle.std.specs.Prelude.{◌+ℤ◌, ◌≤ℤ◌}
+use Rattle.std.proofs.lemmas.Int.{ints}
 use Rattle.std.proofs.lemmas.Nat.{pow-add}
 use Rattle.std.proofs.Math.Nat.{mod-mod_of_dvd, dvd-mul_left}
 use Rattle.helix_values.specs.Grids.{IsMultipleOf, IsOnNumberGrid, IsOnMomentGrid, IsMonthStart, IsYearStart}
@@ -50,3 +52,7 @@ pub moment_grid_coarser : (level finer : ℕ) (v : ℤ) → finer ≤ level → 
 moment_grid_coarser level finer v below within on =
     let split : level ≡ (level - finer) + finer = omega arith in
     finer_by (level - finer) finer v (omega arith) (subst (λ l. IsOnMomentGrid l v) split on)
+
+-- a sum rises with its first part
+pub sum_rises : (offset v w : ℤ) → v ≤ℤ w → (v +ℤ offset) ≤ℤ (w +ℤ offset)
+sum_rises offset v w below = omega (arith, ints)

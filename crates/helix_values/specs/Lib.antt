@@ -8,3 +8,7 @@ pub mod Universe
 pub mod Shift
 pub mod Scale
 pub mod LadderLaws
+pub mod Rising
+pub mod Texts
+pub mod Spelling
+pub mod Reading

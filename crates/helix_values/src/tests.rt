@@ -1,5 +1,6 @@
 mod dates;
 mod ladders;
+mod texts;
 
 use crate::{Cell, CellRef, Cells, Code, Kind, Row, cmp_cell, cmp_row, in_universe, valid};
 use helix_base::{Alphabet, Text};
