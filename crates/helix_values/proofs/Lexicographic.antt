@@ -21,16 +21,6 @@ comparable_at (c ∷ a) [] i x y both within = absurd both
 comparable_at (c ∷ a) (d ∷ b) zero x y both within = both.0
 comparable_at (c ∷ a) (d ∷ b) (suc i) x y both within = comparable_at a b i x y both.1 (omega arith)
 
--- the same of two cells that are items of the rows
-pub comparable_items : (a b : List Cell) (i : ℕ) (x y : Cell) → AreComparableRows a b → i < length a → x ≡ get_or a i x → y ≡ get_or b i y → AreComparable x y
-comparable_items a b i x y both within x_is y_is =
-    subst (λ v. AreComparable v y) (sym x_is) (subst (λ v. AreComparable (get_or a i x) v) (sym y_is) (comparable_at a b i x y both within))
-
--- items are compared as the cells at their place
-pub items_cmp : (a b : List Cell) (i : ℕ) (x y d e : Cell) → i < length a → i < length b → x ≡ get_or a i x → y ≡ get_or b i y → cell_cmp x y ≡ cell_cmp (get_or a i d) (get_or b i e)
-items_cmp a b i x y d e in_a in_b x_is y_is =
-    ap (λ v. cell_cmp v y) (x_is ∙ get_or_default a i x d in_a) ∙ ap (λ v. cell_cmp (get_or a i d) v) (y_is ∙ get_or_default b i y e in_b)
-
 -- what is left of two rows is compared by its first cells, and then by what is left after them
 pub row_cmp-drop : (a b : List Cell) (i : ℕ) (x y : Cell) → i < length a → i < length b
     → row_cmp (drop i a) (drop i b) ≡ ordering_then (cell_cmp (get_or a i x) (get_or b i y)) (row_cmp (drop (i + 1) a) (drop (i + 1) b))

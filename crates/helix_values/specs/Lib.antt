@@ -12,3 +12,5 @@ pub mod Rising
 pub mod Texts
 pub mod Spelling
 pub mod Reading
+pub mod Slot
+pub mod Marks

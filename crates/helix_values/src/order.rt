@@ -1,12 +1,13 @@
 //! The order of cells and of rows.
 
 ghost use Rattle.std.specs.Prelude.{◌≡◌, ◌<◌, length, slice_index_or};
-ghost use Rattle.helix_values.specs.declared.cell.Cell.{Cell};
+ghost use Rattle.helix_values.specs.declared.cell.Cell.TheVariants as cells;
 ghost use Rattle.helix_values.specs.Class.{AreComparable, AreComparableRows};
 ghost use Rattle.helix_values.specs.Order.{cell_cmp, row_cmp, text_cmp};
 ghost use Rattle.helix_values.specs.View.{cell_of};
 
-use crate::cell::{Cell, CellRef};
+use crate::cell::CellRef;
+use crate::row_buf::RowBuf;
 use std::cmp::Ordering;
 
 /// Compares two cells of one field.
@@ -34,7 +35,7 @@ fn cmp_text(a: &[u32], b: &[u32]) -> Ordering
 }
 
 /// Compares two rows of the same fields, by the first field in which they differ.
-pub fn cmp_row(a: &[Cell], b: &[Cell]) -> Ordering
+pub fn cmp_row(a: &RowBuf, b: &RowBuf) -> Ordering
     requires { AreComparableRows a.now b.now }
     ensures { result ≡ row_cmp a.now b.now }
 {
@@ -48,10 +49,10 @@ pub fn cmp_row(a: &[Cell], b: &[Cell]) -> Ordering
 }
 
 /// Compares the cells of one field of two rows.
-fn cmp_field(a: &[Cell], b: &[Cell], i: usize) -> Ordering
+fn cmp_field(a: &RowBuf, b: &RowBuf, i: usize) -> Ordering
     requires rows { AreComparableRows a.now b.now }
     requires field { i < length a.now }
-    ensures { (x y : Cell) → result ≡ cell_cmp (slice_index_or a.now i x) (slice_index_or b.now i y) }
+    ensures { result ≡ cell_cmp (slice_index_or a.now i cells.Null) (slice_index_or b.now i cells.Null) }
 {
-    cmp_cell(a[i].view(), b[i].view())
+    cmp_cell(a.slot(i).view(), b.slot(i).view())
 }

@@ -1,8 +1,9 @@
 mod dates;
 mod ladders;
+mod slots;
 mod texts;
 
-use crate::{Cell, CellRef, Cells, Code, Kind, Row, cmp_cell, cmp_row, in_universe, valid};
+use crate::{Cell, CellRef, Cells, Code, Kind, Row, cmp_cell, in_universe, valid};
 use helix_base::{Alphabet, Text};
 use std::cmp::Ordering;
 use std::test::Fail;
@@ -84,19 +85,6 @@ fn cells_are_ordered(rt: HostRuntime) {
     assert_eq!(rt; cmp_cell(no, yes), Ordering::Less);
     assert_eq!(rt; cmp_cell(CellRef::Null, yes), Ordering::Greater);
     assert_eq!(rt; cmp_cell(CellRef::Null, CellRef::Null), Ordering::Equal);
-}
-
-#[test]
-fn rows_are_ordered_by_the_first_difference(rt: HostRuntime) {
-    let low = [Cell::Number(1), Cell::Number(9)];
-    let high = [Cell::Number(2), Cell::Number(0)];
-    let last = [Cell::Number(2), Cell::Null];
-    assert_eq!(rt; cmp_row(low.as_slice(), high.as_slice()), Ordering::Less);
-    assert_eq!(rt;
-        cmp_row(last.as_slice(), high.as_slice()),
-        Ordering::Greater
-    );
-    assert_eq!(rt; cmp_row(high.as_slice(), high.as_slice()), Ordering::Equal);
 }
 
 // The words of the BAE Systems, Apple, Oracle and Cisco shares, and published examples.
