@@ -3,7 +3,7 @@ use Rattle.std.proofs.Common.{◌≡◌, ◌≢◌, ℕ, zero, suc, ◌+◌, ◌
 use Rattle.std.proofs.lemmas.Bool.Decides.{nat_tests}
 use Rattle.std.proofs.lemmas.Fmt.{decimal_by_steps_wide}
 use Rattle.std.proofs.Math.Arith.{mod-mul}
-use Rattle.helix_json.specs.Numbers.{IsDigit, AreDigits, IsWhole, digits_from, digits_value}
+use Rattle.helix_json.specs.Numbers.{AreDigits, IsWhole, digits_from, digits_value}
 use Rattle.helix_json.proofs.Decimal.{digits_push, from-append, pow_more, some_power}
 use Rattle.helix_values.specs.Texts.{last_digits, kept, without_zeros}
 

@@ -1,12 +1,10 @@
 -- Zeros at the end of digits.
-use Rattle.std.proofs.Common.{◌≡◌, ◌≢◌, ℕ, zero, suc, ◌+◌, ◌-◌, ◌*◌, ◌/◌, ◌%◌, ◌^◌, ◌<◌, ◌≤◌, List, [], ◌∷◌, ◌++◌, length, inl, inr, refl, sym, ap, ◌∙◌, subst, arith}
+use Rattle.std.proofs.Common.{◌≡◌, ◌≢◌, ℕ, zero, suc, ◌+◌, ◌-◌, ◌*◌, ◌/◌, ◌%◌, ◌^◌, ◌<◌, ◌≤◌, List, [], ◌∷◌, ◌++◌, length, inl, inr, refl, sym, ap, ◌∙◌, arith}
 use Rattle.std.proofs.Common.{decimal}
 use Rattle.std.proofs.lemmas.Fmt.{length-decimal-le_wide}
-use Rattle.helix_json.specs.Numbers.{fraction_text}
 use Rattle.helix_json.proofs.Decimal.{pow_more}
 use Rattle.helix_values.specs.Texts.{last_digits, kept, without_zeros}
 use Rattle.helix_values.proofs.DecimalTexts.{kept_cases, last_digits-suc}
-use Rattle.helix_values.proofs.FixedDigits.{length-last_digits}
 
 -- a zero more changes nothing
 zero_more : (ds : List ℕ) → without_zeros (ds ++ 48 ∷ []) ≡ without_zeros ds
@@ -50,13 +48,6 @@ fewer_digits (suc width) n some below =
     let back : suc width - 1 ≡ width = omega arith in
     let power : 10 ^ suc width ≡ 10 ^ width * 10 = ap (λ k. 10 ^ k) (omega arith) ∙ pow_more width in
     rw back (omega (arith, power))
-
-pub places_behind_point : (width n : ℕ) → 0 < width → 46 ∷ last_digits width n ≡ fraction_text (last_digits width n)
-places_behind_point width n some = shown (last_digits width n) (omega (arith, length-last_digits width n))
-  where
-    shown : (ds : List ℕ) → 0 < length ds → 46 ∷ ds ≡ fraction_text ds
-    shown [] none = absurd (omega arith)
-    shown (d ∷ ds) none = refl
 
 -- a number up to 10^20 has at most 21 digits
 pub numeral-le : (n : ℕ) → n ≤ 10 ^ 20 → length (decimal n) ≤ 21

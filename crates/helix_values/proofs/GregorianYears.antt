@@ -1,5 +1,5 @@
 -- The days of years and of months.
-use Rattle.std.proofs.Common.{◌≡◌, ℕ, zero, suc, ◌+◌, ◌*◌, ◌/◌, ◌≤◌, true, false, cond, refl, arith}
+use Rattle.std.proofs.Common.{◌≡◌, ℕ, zero, suc, ◌+◌, ◌*◌, ◌/◌, true, false, cond, refl, arith}
 use Rattle.std.proofs.lemmas.Bool.Decides.{nat_tests}
 use Rattle.helix_values.specs.Calendar.{sum_up_to, is_leap_year, days_of_year, days_of_month, days_of_calendar}
 use Rattle.helix_values.proofs.Totals.{sum_up_to-suc, sum_up_to-zero}
@@ -16,9 +16,6 @@ days_of_years (suc n) = omega (arith, sum_up_to-suc days_of_year n, days_of_year
 -- the calendar ends with the year 9999
 pub end_of_calendar : sum_up_to days_of_year 9999 ≡ days_of_calendar
 end_of_calendar = omega (arith, days_of_years 9999)
-
-pub year_bound : (year : ℕ) → (365 ≤ days_of_year year) × (days_of_year year ≤ 366)
-year_bound year = elim (is_leap_year year) as (λ b. (365 ≤ cond b 366 365) × (cond b 366 365 ≤ 366)) [ true ↦ (omega arith, omega arith) | false ↦ (omega arith, omega arith) ]
 
 -- the months of a year make up the year
 pub days_of_months : (year : ℕ) → sum_up_to (days_of_month year) 12 ≡ days_of_year year

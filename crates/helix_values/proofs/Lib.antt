@@ -24,3 +24,6 @@ pub mod EndZeros
 pub mod ScalarTexts
 pub mod ReadMoments
 pub mod ReadTimes
+pub mod TextCounts
+pub mod MarkCounts
+pub mod WrittenDigits

@@ -1,20 +1,18 @@
 -- A moment text spells one moment, and the written form of a moment spells it.
-use Rattle.std.proofs.Common.{◌≡◌, ◌≢◌, ℕ, zero, suc, ◌+◌, ◌-◌, ◌*◌, ◌/◌, ◌%◌, ◌^◌, ◌<◌, ◌≤◌, ℤ, pos, negsuc, ◌≤ℤ◌, List, [], ◌∷◌, ◌++◌, length, append_assoc, Bool, true, false, ◌⊎◌, inl, inr, refl, sym, ap, ◌∙◌, subst, arith}
-use Rattle.std.specs.Prelude.{unsigned_abs, min}
+use Rattle.std.proofs.Common.{◌≡◌, ℕ, ◌-◌, ◌*◌, ◌/◌, ◌%◌, ◌^◌, ◌<◌, ◌≤◌, ℤ, pos, negsuc, List, [], ◌∷◌, ◌++◌, length, append_assoc, Bool, true, false, inl, inr, refl, sym, ap, ◌∙◌, arith}
 use Rattle.std.proofs.lemmas.Int.{ints}
 use Rattle.std.proofs.lemmas.List.{append-nil}
-use Rattle.helix_json.specs.Numbers.{AreDigits, IsDigit, fraction_text, digits_value}
+use Rattle.helix_json.specs.Numbers.{AreDigits, fraction_text, digits_value}
 use Rattle.helix_json.specs.Pieces.{NoDigit}
 use Rattle.helix_json.proofs.Parts.{digits_unique}
-use Rattle.helix_values.specs.declared.kind.Kind.{Kind}
 use Rattle.helix_values.specs.declared.kind.Kind.TheVariants as kind
-use Rattle.helix_values.specs.Calendar.{IsDate, IsMoment, year_of, month_of, day_of_month, day_number, day_of, days_of_month, midnight, millis_of_day, days_of_calendar}
+use Rattle.helix_values.specs.Calendar.{IsDate, IsMoment, year_of, month_of, day_of_month, day_number, day_of, midnight, millis_of_day}
 use Rattle.helix_values.specs.Grids.{IsMultipleOf}
 use Rattle.helix_values.specs.Texts.{last_digits, date_text, clock_text, day_text, time_text, moment_text}
-use Rattle.helix_values.specs.Spelling.{Time, IsTime, zulu_text, full_time_text, thousandths, millis_of_time, SpellsDay, SpellsDayAndTime, SpellsMoment}
+use Rattle.helix_values.specs.Spelling.{Time, IsTime, zulu_text, full_time_text, thousandths, millis_of_time, SpellsMoment}
 use Rattle.helix_values.specs.Reading.{three_text}
 use Rattle.helix_values.proofs.DecimalTexts.{last_digits_are, last_digits-from}
-use Rattle.helix_values.proofs.FixedDigits.{same_fronts, same_numbers, length-last_digits}
+use Rattle.helix_values.proofs.FixedDigits.{same_numbers, length-last_digits}
 use Rattle.helix_values.proofs.LadderSteps.{month_bound}
 use Rattle.helix_values.proofs.DaysHaveDates.{day_has_date}
 

@@ -42,10 +42,6 @@ module _ (step number : ℕ) (some : 0 < step) where
       (λ less. absurd (omega (arith, mul-le-mul_left step less)))
       (cases_lt (number / step) (w / step))
 
--- a number that is a multiple is the least one from itself on
-pub least_multiple_itself : (step : ℕ) (bound : ℤ) → IsMultipleOf step bound → IsLeast (λ v. IsMultipleOf step v × (bound ≤ℤ v)) bound
-least_multiple_itself step bound multiple = record { has = (multiple, omega (arith, ints)); least = λ w h. h.1 }
-
 -- behind a number that isn't negative comes the rest of its step
 pub least_multiple_above : (step past : ℕ) (bound r : ℤ) → 0 < step → past ≡ unsigned_abs bound % step → 0 < past → pos 0 ≤ℤ bound → r ≡ bound +ℤ pos (step - past)
     → IsLeast (λ v. IsMultipleOf step v × (bound ≤ℤ v)) r

@@ -1,14 +1,14 @@
 -- The written form of a number spells it, and a text spells one number at most.
-use Rattle.std.proofs.Common.{◌≡◌, ◌≢◌, ℕ, zero, suc, ◌+◌, ◌-◌, ◌*◌, ◌/◌, ◌%◌, ◌^◌, ◌<◌, ◌≤◌, ℤ, pos, negsuc, List, [], ◌∷◌, ◌++◌, length, Bool, true, false, ◌⊎◌, inl, inr, decimal, refl, sym, ap, ◌∙◌, subst, arith}
+use Rattle.std.proofs.Common.{◌≡◌, ◌≢◌, ℕ, ◌+◌, ◌*◌, ◌/◌, ◌%◌, ◌^◌, ◌≤◌, ℤ, pos, negsuc, List, [], ◌∷◌, ◌++◌, length, Bool, true, false, inl, inr, decimal, refl, sym, ap, ◌∙◌, subst, arith}
 use Rattle.std.specs.Prelude.{unsigned_abs}
 use Rattle.helix_json.specs.Numbers.{IsDigit, AreDigits, IsWhole, Parts, SpellsNumber, Exponent, no_exponent, power, plus, minus, no_sign, IsExponent, fraction_text, exponent_text, minus_text, digits_from, digits_value, HasUnits, signed, IsUnits}
 use Rattle.helix_json.specs.Pieces.{NoDigit, TakesSign, TakesFraction, TakesExponent, Found, AreUnits}
-use Rattle.helix_json.proofs.Decimal.{from-append, some_power, cancel}
-use Rattle.helix_json.proofs.Parts.{digits_unique, parts_found, units_found}
+use Rattle.helix_json.proofs.Decimal.{from-append, cancel}
+use Rattle.helix_json.proofs.Parts.{parts_found, units_found}
 use Rattle.std.proofs.lemmas.Nat.{pow-add}
 use Rattle.std.proofs.lemmas.List.{append-nil}
 use Rattle.helix_values.specs.Texts.{last_digits, without_zeros, is_negative, one, number_text}
-use Rattle.helix_values.proofs.DecimalTexts.{decimal_whole, decimal_value, last_digits_are, last_digits-from, without_zeros_are, without_zeros-from, LeavesZeros}
+use Rattle.helix_values.proofs.DecimalTexts.{decimal_whole, decimal_value, last_digits_are, last_digits-from, without_zeros_are, without_zeros-from}
 use Rattle.helix_values.proofs.FixedDigits.{length-last_digits}
 
 signed_itself : (u : ℤ) → u ≡ signed (is_negative u) (unsigned_abs u)

@@ -1,18 +1,23 @@
 -- What is found at the front of a text is all that stands there.
-use Rattle.std.proofs.Common.{◌≡◌, ◌≢◌, ℕ, zero, suc, ◌+◌, ◌-◌, ◌*◌, ◌/◌, ◌%◌, ◌^◌, ◌<◌, ◌≤◌, ◌⊎◌, inl, inr, ℤ, List, [], ◌∷◌, ◌++◌, length, length-append, get_or, take, append_assoc, Bool, true, false, refl, sym, ap, ◌∙◌, subst, arith}
-use Rattle.std.proofs.Common.{append-nil, add-one}
+use Rattle.std.proofs.Common.{◌≡◌, ℕ, ◌+◌, ◌-◌, ◌*◌, ◌/◌, ◌%◌, ◌^◌, ◌<◌, ◌≤◌, List, [], ◌∷◌, ◌++◌, length, length-append, get_or, take, append_assoc, true, sym, ap, ◌∙◌, subst, arith}
+use Rattle.std.proofs.Common.{add-one}
 use Rattle.std.proofs.lemmas.List.{take_more}
-use Rattle.std.proofs.Math.Nat.{mod-eq_of_lt, mul-le-mul_right}
-use Rattle.std.proofs.lemmas.Nat.{pow-add}
-use Rattle.helix_json.specs.Numbers.{IsDigit, AreDigits, digits_value, digits_from, fraction_text}
-use Rattle.helix_json.proofs.Decimal.{digit_at, pow_more, some_power}
-use Rattle.helix_values.specs.Calendar.{IsDate, days_of_month}
-use Rattle.helix_values.specs.Texts.{last_digits, date_text, clock_text}
-use Rattle.helix_values.specs.Reading.{three_text, BeginsWithNumber, BeginsWithPart, BeginsWithThree, BeginsWithDate, TakesZulu, IsTimeEnd, CountsTimeEnd, IsTimeBehind, CountsTime}
-use Rattle.helix_values.specs.Spelling.{Time, IsTime, zulu_text, full_time_text, thousandths, millis_of_time, SpellsDay, SpellsDayAndTime, SpellsMoment}
-use Rattle.helix_values.proofs.DecimalTexts.{last_digits-suc, last_digits_are, last_digits-from}
-use Rattle.helix_values.proofs.FixedDigits.{length-last_digits, same_fronts, same_numbers, last_digits-front}
+use Rattle.helix_json.specs.Numbers.{IsDigit, AreDigits}
+use Rattle.helix_json.proofs.Decimal.{digit_at, pow_more}
+use Rattle.std.proofs.lemmas.Bool.Decides.{nat_tests}
+use Rattle.helix_values.specs.Codes.{is_digit}
+use Rattle.helix_values.specs.Texts.{last_digits}
+use Rattle.helix_values.specs.Reading.{BeginsWithNumber, BeginsWithPart, BeginsWithThree, BeginsWithDate}
+use Rattle.helix_values.proofs.DecimalTexts.{last_digits-suc, last_digits_are}
+use Rattle.helix_values.proofs.FixedDigits.{length-last_digits, same_fronts, same_numbers}
 use Rattle.helix_values.proofs.MomentTexts.{AreSameThrees, same_threes, small_date}
+
+-- the test for a digit, as a fact
+pub digit_from : (c : ℕ) → is_digit c ≡ true → IsDigit c
+digit_from c is = grind (arith, nat_tests)
+
+pub digit_test : (c : ℕ) → IsDigit c → is_digit c ≡ true
+digit_test c digit = grind (arith, nat_tests)
 
 -- one digit more
 pub digit_behind : (list : List ℕ) (i n d : ℕ) → take i list ≡ last_digits i n → i < length list → d ≡ get_or list i 0 → 48 ≤ d → d ≤ 57 → take (i + 1) list ≡ last_digits (i + 1) (n * 10 + (d - 48))

@@ -1,17 +1,18 @@
 -- The end of a time, a time and a moment, read from a text.
-use Rattle.std.proofs.Common.{◌≡◌, ◌≢◌, ℕ, zero, suc, ◌+◌, ◌-◌, ◌*◌, ◌/◌, ◌%◌, ◌^◌, ◌<◌, ◌≤◌, ◌⊎◌, inl, inr, ℤ, pos, List, [], ◌∷◌, ◌++◌, length, length-append, get_or, Bool, true, false, ◌==◌, refl, sym, ap, ◌∙◌, subst, arith}
+use Rattle.std.proofs.Common.{◌≡◌, ℕ, ◌+◌, ◌-◌, ◌*◌, ◌^◌, ◌<◌, ◌≤◌, inl, inr, ℤ, List, [], ◌∷◌, ◌++◌, length, length-append, get_or, Bool, true, false, ◌==◌, refl, sym, ap, ◌∙◌, subst, arith}
 use Rattle.std.proofs.Common.{append-nil}
 use Rattle.std.proofs.Math.Nat.{mod-eq_of_lt, mul-le-mul_right}
-use Rattle.std.proofs.lemmas.Nat.{pow-add, div-mul-add}
-use Rattle.helix_json.specs.Numbers.{IsDigit, AreDigits, digits_value, digits_from, fraction_text}
-use Rattle.helix_json.proofs.Decimal.{digit_at, pow_more, some_power}
-use Rattle.helix_values.specs.Calendar.{IsDate, day_number, midnight}
-use Rattle.helix_values.specs.Texts.{last_digits, date_text, clock_text}
-use Rattle.helix_values.specs.Reading.{three_text, IsClock, BeginsWithThree, BeginsWithDate, TakesZulu, IsTimeEnd, CountsTimeEnd, IsTimeBehind, CountsTime}
-use Rattle.helix_values.specs.Spelling.{Time, IsTime, zulu_text, full_time_text, thousandths, millis_of_time, SpellsDay, SpellsDayAndTime, SpellsMoment}
-use Rattle.helix_values.proofs.DecimalTexts.{last_digits-zero, last_digits-suc, last_digits_are, last_digits-from}
-use Rattle.helix_values.proofs.FixedDigits.{length-last_digits, same_fronts, last_digits-front}
+use Rattle.std.proofs.lemmas.Nat.{pow-add}
+use Rattle.helix_json.specs.Numbers.{IsDigit, AreDigits, digits_value, fraction_text}
+use Rattle.helix_json.proofs.Decimal.{digit_at, some_power}
+use Rattle.helix_values.specs.Calendar.{IsDate}
+use Rattle.helix_values.specs.Texts.{last_digits, clock_text}
+use Rattle.helix_values.specs.Reading.{IsClock, BeginsWithThree, BeginsWithDate, TakesZulu, IsTimeEnd, CountsTimeEnd, IsTimeBehind, CountsTime}
+use Rattle.helix_values.specs.Spelling.{Time, zulu_text, full_time_text, SpellsMoment}
+use Rattle.helix_values.proofs.DecimalTexts.{last_digits_are, last_digits-from}
+use Rattle.helix_values.proofs.FixedDigits.{same_fronts}
 use Rattle.helix_values.proofs.MomentTexts.{AreSameThrees}
+use Rattle.helix_values.proofs.WrittenDigits.{digits_write}
 use Rattle.helix_values.proofs.ReadMoments.{threes_found, date_begins}
 
 pub not_empty : (l : List ℕ) → (length l == 0) ≡ false → l ≡ [] → ⊥
@@ -65,43 +66,6 @@ digits_there text front digits (c ∷ cs) zulu takes point end =
     let same : digits ≡ c ∷ cs = cc in
     (same, omega (arith, ap length same))
 
-pub too_many : (text front digits fraction : List ℕ) (zulu : Bool) → TakesZulu text front → front ≡ 46 ∷ digits → (length digits ≡ 0) ⊎ (3 < length digits) → IsTimeEnd text fraction zulu → ⊥
-too_many text front digits fraction zulu takes point count end =
-    let there = digits_there text front digits fraction zulu takes point end in
-    elim count [ inl none ↦ omega (arith, there.1) | inr many ↦ omega (arith, end.places, ap length there.0) ]
-
--- digits write a number
-same_last : (width k n : ℕ) → last_digits width (k * 10 ^ width + n) ≡ last_digits width n
-unfolding last_digits
-same_last zero k n = refl
-same_last (suc width) k n =
-    let power : k * 10 ^ suc width ≡ k * 10 ^ width * 10 = ap (λ p. k * p) (ap (λ w. 10 ^ w) (omega arith) ∙ pow_more width) ∙ omega arith in
-    let front : (k * 10 ^ suc width + n) / 10 ≡ k * 10 ^ width + n / 10 = omega (arith, power) in
-    let last : (k * 10 ^ suc width + n) % 10 ≡ n % 10 = omega (arith, power) in
-    ap (λ f. last_digits width f ++ (48 + (k * 10 ^ suc width + n) % 10) ∷ []) front
-    ∙ (ap (λ l. last_digits width (k * 10 ^ width + n / 10) ++ (48 + l) ∷ []) last ∙ ap (λ l. l ++ (48 + n % 10) ∷ []) (same_last width k (n / 10)))
-
-first_digit : (width d n : ℕ) → n < 10 ^ width → d < 10 → (d * 10 ^ width + n) / 10 ^ width % 10 ≡ d
-first_digit width d n small digit = ap (λ q. q % 10) (div-mul-add d (10 ^ width) n small) ∙ mod-eq_of_lt digit
-
-one_more : (width d n : ℕ) → n < 10 ^ width → d < 10 → d * 10 ^ width + n < 10 ^ suc width
-one_more width d n small digit =
-    let power : 10 ^ suc width ≡ 10 ^ width * 10 = ap (λ w. 10 ^ w) (omega arith) ∙ pow_more width in
-    let most : d ≤ 9 = omega arith in
-    omega (arith, power, mul-le-mul_right (10 ^ width) most)
-
-pub digits_write : (ds : List ℕ) → AreDigits ds → (n : ℕ) × (n < 10 ^ length ds) × (ds ≡ last_digits (length ds) n)
-digits_write [] digits = (0, omega arith, sym (last_digits-zero 0))
-digits_write (d ∷ ds) digits =
-    let rest = digits_write ds digits.1 in
-    let first : 48 + ((d - 48) * 10 ^ length ds + rest.0) / 10 ^ length ds % 10 ≡ d = omega (arith, first_digit (length ds) (d - 48) rest.0 rest.1 (omega (arith, digits.0.1)), digits.0.0) in (
-      (d - 48) * 10 ^ length ds + rest.0,
-      one_more (length ds) (d - 48) rest.0 rest.1 (omega (arith, digits.0.1)),
-      ap (λ l. d ∷ l) (rest.2 ∙ sym (same_last (length ds) (d - 48) rest.0))
-          ∙ (ap (λ c. c ∷ last_digits (length ds) ((d - 48) * 10 ^ length ds + rest.0)) (sym first)
-          ∙ sym (last_digits-front (length ds) ((d - 48) * 10 ^ length ds + rest.0))),
-    )
-
 pub no_digits : (text front digits fraction : List ℕ) (zulu : Bool) → TakesZulu text front → front ≡ 46 ∷ digits → ((n : ℕ) → digits ≡ last_digits (length digits) n → ⊥) → IsTimeEnd text fraction zulu → ⊥
 no_digits text front digits fraction zulu takes point none end =
     let there = digits_there text front digits fraction zulu takes point end in
@@ -139,17 +103,6 @@ thousandths_small n places power small most factor =
     let all : 10 ^ places * 10 ^ (3 - places) ≡ 1000 = sym (pow-add 10 places (3 - places)) ∙ ap (λ k. 10 ^ k) sum in
     let below : n + 1 ≤ 10 ^ places = omega arith in
     omega (arith, mul-le-mul_right (10 ^ (3 - places)) below, all, some_power (3 - places), ap (λ p. n * p) factor)
-
--- without a point nothing is counted
-pub counts_none : (text front : List ℕ) → TakesZulu text front → front ≡ [] → CountsTimeEnd text 0
-counts_none text front takes none =
-    let zulu = zulu_of text front takes in
-    record {
-      fraction = [];
-      zulu = zulu.0;
-      end = record { digits = tt; places = omega arith; is = zulu.1 ∙ ap (λ l. l ++ zulu_text zulu.0) none };
-      value = refl;
-    }
 
 -- the numbers of a time, and what follows them
 pub time_front : (codes text : List ℕ) (a b c : ℕ) (rest : List ℕ) (time : Time) → codes ≡ 84 ∷ text → BeginsWithThree text 2 58 a b c rest → IsTimeBehind codes time

@@ -6,10 +6,9 @@ use Rattle.helix_values.specs.declared.kind.Kind.{Kind}
 use Rattle.helix_values.specs.declared.kind.Kind.TheVariants as kind
 use Rattle.helix_values.specs.declared.cell.Cell.{Cell}
 use Rattle.helix_values.specs.declared.cell.Cell.TheVariants as cell
-use Rattle.helix_values.specs.Class.{Class, numbers, class_of, class_of_kind}
+use Rattle.helix_values.specs.Class.{class_of, class_of_kind}
 use Rattle.helix_values.specs.Universe.{InUniverse, IsNumber}
 use Rattle.helix_values.specs.Texts.{cell_text, truth_text}
-use Rattle.helix_json.specs.Numbers.{IsUnits}
 use Rattle.helix_values.specs.Spelling.{ReadsAs, Spells}
 use Rattle.helix_values.proofs.ClassLaws.{class_of_value}
 use Rattle.helix_values.proofs.NumberTexts.{number_spells, one_number}
@@ -50,17 +49,6 @@ one_value t c d class first second = cc
 
 pub one : (k : Kind) (t : List ℕ) (c d : Cell) → Spells k t c → Spells k t d → c ≡ d
 one k t c d first second = one_value t c d (class_of_value k c first.within ∙ sym (class_of_value k d second.within)) first.reads second.reads
-
--- no number is read where no number in range is
-pub no_number_reads : (k : Kind) (t : List ℕ) → class_of_kind k ≡ numbers → ((u : ℤ) → unsigned_abs u ≤ 10 ^ 35 → IsUnits t u → ⊥) → (c : Cell) → InUniverse k c → ReadsAs t c → ⊥
-no_number_reads kind.Integer t class none (cell.Number units) within reads = none units (number_size units within.0) reads
-no_number_reads kind.Decimal t class none (cell.Number units) within reads = none units (number_size units within) reads
-no_number_reads kind.Boolean t class none c within reads = cc
-no_number_reads (kind.Text alphabet) t class none c within reads = cc
-no_number_reads kind.Date t class none c within reads = cc
-no_number_reads kind.DateTime t class none c within reads = cc
-no_number_reads (kind.Code code) t class none c within reads = cc
-no_number_reads k t class none c within reads = absurd within
 
 -- what is read outside of the universe leaves no value of it
 pub no_other_value : (k : Kind) (t : List ℕ) (c d : Cell) → class_of c ≡ Some (class_of_kind k) → ReadsAs t c → (InUniverse k c → ⊥) → Spells k t d → ⊥

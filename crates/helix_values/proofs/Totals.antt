@@ -1,5 +1,5 @@
 -- Sums of the first values of a function, and the last number that passes a test.
-use Rattle.std.proofs.Common.{◌≡◌, ℕ, zero, suc, ◌+◌, ◌-◌, ◌*◌, ◌<◌, ◌≤◌, Bool, true, false, Some, None, refl, subst, ◌∙◌, arith, add-zero}
+use Rattle.std.proofs.Common.{◌≡◌, ℕ, zero, suc, ◌+◌, ◌-◌, ◌<◌, ◌≤◌, Bool, true, false, Some, None, refl, subst, ◌∙◌, arith, add-zero}
 use Rattle.std.proofs.Common.{⊎_elim}
 use Rattle.std.proofs.lemmas.Bool.{cases_lt}
 use Rattle.helix_values.specs.Calendar.{sum_up_to, last_below}
@@ -24,11 +24,6 @@ pub sum_up_to-le : (f : ℕ → ℕ) (m n : ℕ) → m ≤ n → sum_up_to f m �
 sum_up_to-le f m n below =
     let same : m + (n - m) ≡ n = omega arith in
     subst (λ k. sum_up_to f m ≤ sum_up_to f k) same (sum_up_to-more f m (n - m))
-
--- values of at most b have a sum of at most b for each
-pub sum_up_to-bound : (f : ℕ → ℕ) (b : ℕ) → ((k : ℕ) → f k ≤ b) → (n : ℕ) → sum_up_to f n ≤ n * b
-sum_up_to-bound f b bound zero = omega (arith, sum_up_to-zero f)
-sum_up_to-bound f b bound (suc n) = omega (arith, sum_up_to-suc f n, bound (suc n), sum_up_to-bound f b bound n)
 
 -- the last one is k: it passes, and none above it does
 pub last_below-some : (test : ℕ → Bool) (n k : ℕ) → k < n → test k ≡ true → ((j : ℕ) → k < j → j < n → test j ≡ false) → last_below test n ≡ Some k

@@ -14,3 +14,4 @@ pub mod Spelling
 pub mod Reading
 pub mod Slot
 pub mod Marks
+pub mod Counts

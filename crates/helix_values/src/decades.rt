@@ -5,8 +5,11 @@ ghost use Rattle.std.specs.Prelude.{◌≡◌, ◌<◌, ◌^◌};
 use crate::multiples::{is_multiple_of, multiple_from};
 use crate::scale::Scale;
 
+/// One, in units of 10^-15.
+pub(crate) const ONE: u64 = 1_000_000_000_000_000;
+
 /// The greatest number, 10^20, in units of 10^-15.
-const GREATEST: i128 = 100_000_000_000_000_000_000_000_000_000_000_000;
+pub(crate) const GREATEST: i128 = 100_000_000_000_000_000_000_000_000_000_000_000;
 
 /// The powers of ten, from 1 to 10^15.
 const POWERS: [u64; 16] = [
@@ -25,7 +28,7 @@ const POWERS: [u64; 16] = [
     1_000_000_000_000,
     10_000_000_000_000,
     100_000_000_000_000,
-    1_000_000_000_000_000,
+    ONE,
 ];
 
 /// The numbers from -10^20 to 10^20 in units of 10^-15, with sixteen grids: the multiples of

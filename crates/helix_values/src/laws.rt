@@ -8,6 +8,9 @@ ghost use Rattle.helix_values.specs.declared.kind.Kind.{Kind};
 ghost use Rattle.helix_values.specs.Calendar.{IsDate, day_number, year_of, month_of, day_of_month, year_start, days_of_calendar};
 ghost use Rattle.helix_values.specs.Class.{Class, class_of, class_of_kind, IsNullOr, AreComparable};
 ghost use Rattle.helix_values.specs.Universe.{InUniverse};
+ghost use Rattle.helix_values.specs.declared.mark.Mark.{Mark};
+ghost use Rattle.helix_values.specs.Counts.{IsMarkOf, widest_kind, values_left};
+ghost use Rattle.helix_values.specs.Marks.{IsAdmitted};
 ghost use Rattle.helix_values.specs.Texts.{cell_text};
 ghost use Rattle.helix_values.specs.Spelling.{Spells};
 ghost use Rattle.helix_values.specs.Order.{cell_cmp, row_cmp, CellLess, RowLess};
@@ -49,4 +52,10 @@ pub fn texts_are_read_back()
     ensures written { (k : Kind) (c : Cell) → InUniverse k c → Spells k (cell_text k c) c }
     ensures one { (k : Kind) (t : List ℕ) (c d : Cell) → Spells k t c → Spells k t d → c ≡ d }
     ensures different { (k : Kind) (c d : Cell) → InUniverse k c → InUniverse k d → cell_text k c ≡ cell_text k d → c ≡ d }
+{}
+
+/// A mark that no longer admits a value of the widest universe of its class leaves fewer of them.
+pub fn marks_leave_fewer_values()
+    ensures { (class : Class) (m n : Mark) (v : Cell) → IsMarkOf class m → IsMarkOf class n → InUniverse (widest_kind class) v
+        → IsAdmitted m v → ¬ IsAdmitted n v → values_left class n < values_left class m }
 {}

@@ -1,13 +1,13 @@
 //! Moment texts, read.
 
 ghost use Rattle.std.specs.Prelude.{ℕ, ℤ, ◌≡◌, ◌≢◌, ◌^◌, ◌<◌, ◌≤◌, ◌∷◌, ◌↔◌, Bool, List, length, IsTrue, IfSome, IfNone};
-ghost use Rattle.helix_json.specs.Numbers.{IsDigit};
 ghost use Rattle.helix_values.specs.Calendar.{IsDate};
 ghost use Rattle.helix_values.specs.Reading.{IsClock, BeginsWithNumber, BeginsWithPart, BeginsWithThree, BeginsWithDate, TakesZulu, IsTimeEnd, CountsTimeEnd, IsTimeBehind, CountsTime};
 ghost use Rattle.helix_values.specs.Spelling.{SpellsMoment, Time};
 ghost use Rattle.helix_values.specs.Texts.{last_digits};
 
 use crate::calendar::{Date, day_number, days_of_month, midnight};
+use crate::codes::is_digit;
 use crate::decades::power_of_ten;
 use helix_base::Text;
 
@@ -206,10 +206,4 @@ fn number_of(digits: &[u32]) -> Option<u32>
         number = number * 10 + (*code - 48);
     }
     Some(number)
-}
-
-fn is_digit(code: u32) -> bool
-    ensures { IsTrue result ↔ IsDigit code }
-{
-    48 <= code && code <= 57
 }

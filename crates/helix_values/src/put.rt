@@ -7,10 +7,8 @@ ghost use Rattle.helix_values.specs.Calendar.{days_of_calendar};
 ghost use Rattle.helix_values.specs.Texts.{last_digits, without_zeros, number_text, day_text, time_text};
 
 use crate::calendar::date_of;
+use crate::decades::ONE;
 use itoa::Buffer;
-
-/// The units of 10^-15 in one.
-const ONE: u64 = 1_000_000_000_000_000;
 
 /// Puts one byte.
 pub fn put(out: &mut [u8], at: usize, byte: u8) -> usize

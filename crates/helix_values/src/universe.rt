@@ -9,13 +9,9 @@ ghost use Rattle.helix_values.specs.View.{cell_of};
 use crate::calendar::{LAST_MOMENT, MILLIS_OF_DAY};
 use crate::cell::CellRef;
 use crate::codes::valid;
+use crate::decades::{GREATEST, ONE};
 use crate::kind::Kind;
-
-/// One, in units of 10^-15.
-const ONE: i128 = 1_000_000_000_000_000;
-
-/// The greatest number, 10^20, in units of 10^-15.
-const GREATEST: i128 = 100_000_000_000_000_000_000_000_000_000_000_000;
+use crate::multiples::is_multiple_of;
 
 /// The most characters that a text may have.
 const LONGEST: usize = 1000;
@@ -47,7 +43,7 @@ fn is_number(units: i128) -> bool
 fn is_whole(units: i128) -> bool
     ensures { IsTrue result ↔ IsMultipleOf (10 ^ 15) units }
 {
-    units % ONE == 0
+    is_multiple_of(ONE, units)
 }
 
 fn is_moment(at: i64) -> bool
@@ -59,5 +55,5 @@ fn is_moment(at: i64) -> bool
 fn is_midnight(at: i64) -> bool
     ensures { IsTrue result ↔ IsMultipleOf millis_of_day at }
 {
-    at % MILLIS_OF_DAY == 0
+    is_multiple_of(MILLIS_OF_DAY as u64, i128::from(at))
 }

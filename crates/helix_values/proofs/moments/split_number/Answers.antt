@@ -1,4 +1,4 @@
-use Rattle.std.proofs.Common.{◌∙◌, sym, arith}
+use Rattle.std.proofs.Common.{sym}
 use Rattle.std.proofs.lemmas.List.{take-append-drop}
 use Rattle.helix_values.proofs.ReadMoments.{too_short, no_number_in_front}
 use Rattle.helix_values.proofs.moments.split_number.Goals as goal

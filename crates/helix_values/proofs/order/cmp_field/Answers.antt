@@ -1,6 +1,5 @@
-use Rattle.std.proofs.Common.{arith, ap, ◌∙◌}
+use Rattle.std.proofs.Common.{arith}
 use Rattle.helix_values.specs.declared.cell.Cell.TheVariants.{Null}
-use Rattle.helix_values.specs.Class.{AreComparable}
 use Rattle.helix_values.proofs.Lexicographic.{comparable-length, comparable_at}
 use Rattle.helix_values.proofs.order.cmp_field.Goals as goal
 

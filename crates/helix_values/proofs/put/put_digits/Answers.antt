@@ -1,8 +1,7 @@
-use Rattle.std.proofs.Common.{◌≡◌, ◌+◌, ◌-◌, ◌*◌, ◌/◌, ◌%◌, ◌^◌, ◌++◌, ◌∷◌, take, length, suc, sym, ap, ◌∙◌, append-nil, add-one, arith, subst}
+use Rattle.std.proofs.Common.{◌+◌, ◌/◌, ◌^◌, sym, ap, ◌∙◌, arith}
 use Rattle.std.proofs.Math.Nat.{div-div-eq-div-mul}
 use Rattle.helix_json.proofs.Decimal.{pow_more}
-use Rattle.helix_values.specs.Texts.{last_digits}
-use Rattle.helix_values.proofs.FixedDigits.{last_digits-front, digit_in_front, digit_step, no_digits_yet}
+use Rattle.helix_values.proofs.FixedDigits.{digit_step, no_digits_yet}
 use Rattle.helix_values.proofs.put.put_digits.Goals as goal
 
 pub loop-i-init : goal.loop-i-init
