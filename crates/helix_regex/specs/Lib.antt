@@ -1,4 +1,5 @@
 pub mod Matching
+pub mod MatchingLaws
 pub mod Characters
 pub mod Pattern
 pub mod Meaning
