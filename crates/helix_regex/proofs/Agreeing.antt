@@ -1,5 +1,5 @@
 -- What a scanner keeps is enough to know whether the next character is refused.
-use Rattle.std.proofs.Common.{◌≡◌, ℕ, zero, suc, ◌+◌, ◌==◌, ◌&&◌, Bool, true, false, Option, Some, None, List, [], ◌∷◌, length, refl, cond}
+use Rattle.std.proofs.Common.{◌≡◌, ℕ, zero, suc, ◌==◌, ◌&&◌, Bool, true, false, Option, Some, None, List, [], ◌∷◌, length, refl, cond}
 use Rattle.helix_regex.specs.declared.sign.Sign.{Sign}
 use Rattle.helix_regex.specs.declared.sign.Sign.TheVariants as sign_is
 use Rattle.helix_regex.specs.declared.sign.EscapeSign.{EscapeSign}
@@ -15,7 +15,7 @@ use Rattle.helix_regex.specs.declared.mode.Advance.{Advance}
 use Rattle.helix_regex.specs.declared.mode.Advance.TheVariants as advance
 use Rattle.helix_regex.specs.Pattern.{Pattern, Item, End}
 use Rattle.helix_regex.specs.Scan.{sign, escape_sign, count_sign, class_sign, mode_step, settled_advance, opened_advance, atom_advance, quantifier_advance, escape_advance, count_advance, class_advance, class_escape_advance, item_advance, stay_if}
-use Rattle.helix_regex.specs.Machine.{Atom, Last, nothing, opened, atom, repeated, settled, Frame, Counting, count_opened, count_least, count_comma, count_most, InClass, class_opened, class_first, class_items, class_one, class_dash, class_last, class_escape, class_far, State, outside, marked, escaping, counting, in_class, with_mark, settled_step, outside_step, marked_step, escape_step, count_step, ClassMove, refuse, go, done, first_move, items_move, one_move, dash_move, last_move, class_escape_move, far_move, opened_move, class_move, class_step, step, mode_of, frames_of, mode_behind, count_mode, class_mode_of}
+use Rattle.helix_regex.specs.Machine.{Atom, nothing, opened, atom, repeated, settled, Frame, Counting, count_opened, count_least, count_comma, count_most, InClass, class_opened, class_first, class_items, class_one, class_dash, class_last, class_escape, class_far, State, outside, marked, escaping, counting, in_class, with_mark, settled_step, outside_step, marked_step, escape_step, count_step, ClassMove, first_move, items_move, one_move, dash_move, last_move, class_escape_move, far_move, opened_move, class_move, class_step, step, mode_of, frames_of, count_mode, class_mode_of}
 
 abbrev pub depth_of : State → ℕ
 depth_of s = length (frames_of s)

@@ -1,5 +1,5 @@
 -- The tokens of a class, character by character.
-use Rattle.std.proofs.Common.{◌≡◌, ◌≢◌, ℕ, ◌+◌, Bool, true, false, IsTrue, ◌==◌, List, [], ◌∷◌, ◌++◌, length, refl, sym, ◌∙◌, ap, subst, append_assoc, arith, length-append, cond}
+use Rattle.std.proofs.Common.{◌≡◌, ℕ, ◌+◌, Bool, true, false, ◌==◌, List, [], ◌∷◌, ◌++◌, length, refl, sym, ◌∙◌, ap, append_assoc, arith, length-append, cond}
 use Rattle.std.proofs.lemmas.List.{append-nil}
 use Rattle.helix_regex.specs.declared.token.Token.{Token}
 use Rattle.helix_regex.specs.declared.token.Token.TheVariants as token
@@ -12,13 +12,12 @@ use Rattle.helix_regex.specs.declared.mode.Mode.{Mode}
 use Rattle.helix_regex.specs.declared.mode.Mode.TheVariants as mode
 use Rattle.helix_regex.specs.declared.mode.ClassMode.{ClassMode}
 use Rattle.helix_regex.specs.declared.mode.ClassMode.TheVariants as class
-use Rattle.helix_regex.specs.Pattern.{End, plain, escaped, Item, single, range, set_item, dash, end_text, item_text, items_text}
+use Rattle.helix_regex.specs.Pattern.{End, plain, escaped, Item, single, range, set_item, dash, end_text, items_text}
 use Rattle.helix_regex.specs.Meaning.{code_of}
 use Rattle.helix_regex.specs.Scan.{class_sign, escape_sign, class_advance, item_advance, class_escape_advance, in_class as to_class}
 use Rattle.helix_regex.specs.Machine.{InClass, class_opened, class_first, class_items, class_one, class_dash, class_last, class_escape, class_far, ClassMove, refuse, go, done, first_move, items_move, one_move, dash_move, last_move, class_escape_move, far_move, opened_move, class_move, class_mode_of}
 use Rattle.helix_regex.specs.Tokens.{item_token, item_tokens, exclusion, items_at}
 use Rattle.helix_regex.specs.Lexing.{option_list, lexer_next, mode_after, class_escape_token, item_tokens_of, class_emitted}
-use Rattle.helix_regex.proofs.Texts.{items_text-push}
 use Rattle.helix_regex.proofs.ClassSound.{class_so_far, caret_text}
 use Rattle.helix_regex.proofs.TokenTexts.{item_tokens-push}
 

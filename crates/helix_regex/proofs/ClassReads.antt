@@ -1,15 +1,13 @@
 -- The text of a class is read as its items.
-use Rattle.std.proofs.Common.{◌≡◌, ◌≢◌, ◌⊎◌, inl, inr, ℕ, Bool, true, false, IsTrue, ◌==◌, ◌&&◌, not, Option, Some, None, List, [], ◌∷◌, ◌++◌, refl, sym, ◌∙◌, ap, subst, append_assoc, arith}
+use Rattle.std.proofs.Common.{◌≡◌, ◌≢◌, inl, inr, ℕ, Bool, true, false, IsTrue, ◌==◌, ◌&&◌, not, Option, Some, None, List, [], ◌∷◌, ◌++◌, refl, sym, ◌∙◌, ap, subst, append_assoc, arith}
 use Rattle.std.proofs.lemmas.List.{append-nil}
-use Rattle.std.proofs.lemmas.Bool.{eqb-true, cond-true, cond-false}
-use Rattle.helix_regex.specs.declared.sign.ClassSign.{ClassSign}
+use Rattle.std.proofs.lemmas.Bool.{eqb-true, cond-true}
 use Rattle.helix_regex.specs.declared.sign.ClassSign.TheVariants as class_is
-use Rattle.helix_regex.specs.declared.sign.EscapeSign.{EscapeSign}
 use Rattle.helix_regex.specs.declared.sign.EscapeSign.TheVariants as escape_is
 use Rattle.helix_regex.specs.Characters.{is_class_char, is_punct, is_set_letter}
-use Rattle.helix_regex.specs.Pattern.{End, plain, escaped, Item, single, range, set_item, dash, Single, class, Pattern, end_text, item_text, items_text, class_text, FitsEnd, FitItems, FitsClass, BeginsWithCaret, parts_ampersands}
+use Rattle.helix_regex.specs.Pattern.{End, plain, escaped, Item, single, range, set_item, dash, class, Pattern, end_text, items_text, class_text, FitsEnd, FitItems, FitsClass, BeginsWithCaret, parts_ampersands}
 use Rattle.helix_regex.specs.Scan.{class_sign, escape_sign}
-use Rattle.helix_regex.specs.Machine.{alone, atom, Frame, InClass, class_opened, class_first, class_items, class_one, class_dash, class_last, class_escape, class_far, State, outside, in_class, ClassMove, refuse, go, done, first_move, items_move, one_move, dash_move, last_move, class_escape_move, far_move, opened_move, class_move, class_step, step, on_some, run}
+use Rattle.helix_regex.specs.Machine.{alone, atom, Frame, InClass, class_opened, class_first, class_items, class_one, class_dash, class_last, class_escape, class_far, State, outside, in_class, ClassMove, refuse, go, done, first_move, items_move, one_move, dash_move, class_escape_move, far_move, opened_move, class_move, class_step, on_some, run}
 use Rattle.helix_regex.proofs.Decides.{either_of, both_of, differ}
 
 -- a letter that names a set is no other sign

@@ -1,18 +1,15 @@
 -- What is read of a class is the text of its items so far.
-use Rattle.std.proofs.Common.{◌≡◌, ◌≢◌, ◌⊎◌, inl, inr, ℕ, Bool, true, false, IsTrue, ◌==◌, ◌&&◌, not, List, [], ◌∷◌, ◌++◌, refl, sym, ◌∙◌, ap, subst, append_assoc}
-use Rattle.std.proofs.lemmas.List.{append-nil}
+use Rattle.std.proofs.Common.{◌≡◌, ◌≢◌, inl, inr, ℕ, Bool, true, false, IsTrue, ◌==◌, List, [], ◌∷◌, ◌++◌, refl, sym, ◌∙◌, ap, subst, append_assoc}
 use Rattle.std.proofs.lemmas.Bool.{eqb-true}
 use Rattle.helix_regex.specs.declared.sign.ClassSign.{ClassSign}
 use Rattle.helix_regex.specs.declared.sign.ClassSign.TheVariants as class_is
 use Rattle.helix_regex.specs.declared.sign.EscapeSign.{EscapeSign}
 use Rattle.helix_regex.specs.declared.sign.EscapeSign.TheVariants as escape_is
-use Rattle.helix_regex.specs.Characters.{is_class_char}
-use Rattle.helix_regex.specs.Pattern.{End, plain, escaped, Item, single, range, set_item, dash, end_text, item_text, items_text, class_text, FitsEnd, FitItems, FitsClass, BeginsWithCaret, parts_ampersands}
+use Rattle.helix_regex.specs.Pattern.{End, plain, escaped, Item, single, range, set_item, dash, end_text, items_text, FitsEnd, FitItems}
 use Rattle.helix_regex.specs.Scan.{class_sign, escape_sign}
 use Rattle.helix_regex.specs.Machine.{InClass, class_opened, class_first, class_items, class_one, class_dash, class_last, class_escape, class_far, ClassMove, refuse, go, done, first_move, items_move, one_move, dash_move, last_move, class_escape_move, far_move, opened_move, class_move}
 use Rattle.helix_regex.proofs.Texts.{items_text-push, items_text-append}
 use Rattle.helix_regex.proofs.Signs.{ClassMeans, class_means, EscapeMeans, escape_means}
-use Rattle.helix_regex.proofs.Decides.{choose}
 
 -- items that further ones may follow: a `-` is only the first
 abbrev pub Begun : Bool → List Item → Type 0

@@ -1,16 +1,17 @@
 -- The positions of a pattern are those that its tokens add up to.
-use Rattle.std.proofs.Common.{◌≡◌, ℕ, zero, suc, ◌+◌, ◌*◌, ◌≤◌, ◌<◌, ◌⊎◌, inl, inr, min, max, Bool, true, false, ◌||◌, nat_lt, Option, Some, None, List, [], ◌∷◌, ◌++◌, length, refl, sym, ◌∙◌, ap, append_assoc, arith}
-use Rattle.std.proofs.lemmas.Bool.{cases_lt, ltb-true, lt-ltb}
+use Rattle.std.proofs.Common.{◌≡◌, ℕ, zero, suc, ◌+◌, ◌*◌, ◌≤◌, ◌<◌, inl, inr, max, Bool, true, false, ◌||◌, nat_lt, List, [], ◌∷◌, ◌++◌, length, refl, sym, ◌∙◌, ap, append_assoc, arith}
+use Rattle.std.proofs.lemmas.Bool.{cases_lt, lt-ltb}
 use Rattle.std.proofs.Math.Nat.{mul-le-mul_left}
 use Rattle.helix_regex.specs.declared.token.Token.{Token}
 use Rattle.helix_regex.specs.declared.token.Token.TheVariants as token
-use Rattle.helix_regex.specs.Pattern.{Item, single, range, set_item, dash, Single, literal, dot, escape, set, class, Count, star, plus, question, exactly, at_least, between, Quant, once, times, Pattern, end, bar, caret, dollar, one, group, item_text, single_text, opening, pattern_text}
+use Rattle.helix_regex.specs.Pattern.{Item, single, range, set_item, dash, Single, literal, dot, escape, set, class, star, plus, question, exactly, at_least, between, Quant, once, times, Pattern, end, bar, caret, dollar, one, group, item_text, single_text, opening}
 use Rattle.helix_regex.specs.Meaning.{number_of}
 use Rattle.helix_regex.specs.Faults.{place_if, piece_text, group_text, is_bad_count, bad_counts, factor, positions, depth, is_too_large}
-use Rattle.helix_regex.specs.Tokens.{item_tokens, exclusion, items_at, single_tokens, capped, quant_tokens, tokens}
+use Rattle.helix_regex.specs.Tokens.{item_tokens, single_tokens, capped, quant_tokens, tokens}
 use Rattle.helix_regex.specs.Phases.{deepest}
-use Rattle.helix_regex.specs.Positions.{cap, repeats, total}
-use Rattle.helix_regex.proofs.Phased.{low, depth_phase}
+use Rattle.helix_regex.specs.Positions.{cap, total}
+use Rattle.helix_regex.proofs.CountPhase.{low}
+use Rattle.helix_regex.proofs.DepthPhase.{depth_phase}
 use Rattle.helix_regex.proofs.Decides.{not_lt}
 use Rattle.std.proofs.lemmas.List.{append-nil}
 

@@ -1,15 +1,13 @@
 -- What is found on the tokens of a pattern is its first fault.
-use Rattle.std.proofs.Common.{◌≡◌, ℕ, ◌+◌, ◌<◌, ◌≤◌, Bool, true, false, IsTrue, ◌||◌, Option, Some, None, IfSome, IfNone, List, [], ◌∷◌, ◌++◌, length, take, get_or, refl, sym, ◌∙◌, ap, subst}
-use Rattle.std.proofs.lemmas.List.{take_more, take_all}
-use Rattle.helix_regex.specs.declared.token.Token.{Token}
+use Rattle.std.proofs.Common.{◌≡◌, ℕ, Bool, true, false, Option, Some, None, IfSome, IfNone, List, [], ◌∷◌, length, refl, sym, ◌∙◌, ap, subst}
 use Rattle.helix_regex.specs.declared.fault.RegexFault.{RegexFault}
-use Rattle.helix_regex.specs.declared.fault.RegexRule.TheVariants as rule
-use Rattle.helix_regex.specs.Characters.{is_character}
 use Rattle.helix_regex.specs.Pattern.{Pattern, pattern_text, Writes}
-use Rattle.helix_regex.specs.Faults.{AreCharacters, LeavesAlphabet, bad_anchors, bad_ranges, bad_counts, is_too_large, first_of, least_of, lesser, FirstFault, IsSound}
+use Rattle.helix_regex.specs.Faults.{AreCharacters, bad_anchors, bad_ranges, bad_counts, is_too_large, first_of, least_of, lesser, FirstFault, IsSound}
 use Rattle.helix_regex.specs.Tokens.{tokens}
 use Rattle.helix_regex.specs.Phases.{first_rule, token_fault}
-use Rattle.helix_regex.proofs.Phased.{anchors_phase, ranges_phase, counts_phase}
+use Rattle.helix_regex.proofs.AnchorPhase.{anchors_phase}
+use Rattle.helix_regex.proofs.RangePhase.{ranges_phase}
+use Rattle.helix_regex.proofs.CountPhase.{counts_phase}
 use Rattle.helix_regex.proofs.Counted.{size_phase}
 
 no_first : (xs : List ℕ) → first_of xs ≡ None → xs ≡ []

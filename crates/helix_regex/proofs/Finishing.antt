@@ -1,9 +1,9 @@
 -- What is read and not refused can go on to a pattern.
-use Rattle.std.proofs.Common.{◌≡◌, ◌≢◌, ℕ, Bool, true, false, IsTrue, ◌==◌, ◌&&◌, Option, Some, None, List, [], ◌∷◌, ◌++◌, refl, sym, ◌∙◌, ap, subst, append_assoc}
+use Rattle.std.proofs.Common.{◌≡◌, ℕ, Bool, true, false, ◌==◌, ◌&&◌, Some, List, [], ◌∷◌, ◌++◌, refl, sym, ◌∙◌, ap, subst, append_assoc}
 use Rattle.std.proofs.lemmas.List.{append-nil}
-use Rattle.helix_regex.specs.Pattern.{End, Item, plain, escaped, Single, class, Count, Pattern, end, once, group, pattern_text, Fits, Writes}
+use Rattle.helix_regex.specs.Pattern.{End, Item, plain, escaped, class, Pattern, end, once, pattern_text, Fits}
 use Rattle.helix_regex.specs.Faults.{IsViable}
-use Rattle.helix_regex.specs.Machine.{append, Atom, alone, grouped, piece, Last, nothing, opened, atom, repeated, settled, Frame, Counting, count_opened, count_least, count_comma, count_most, InClass, class_opened, class_first, class_items, class_one, class_dash, class_last, class_escape, class_far, State, outside, marked, escaping, counting, in_class, start, with_mark, close, ClassMove, refuse, go, done, class_move, class_step, step, on_some, run}
+use Rattle.helix_regex.specs.Machine.{append, Atom, alone, grouped, piece, Last, nothing, atom, repeated, settled, Frame, Counting, count_opened, count_least, count_comma, count_most, InClass, class_opened, class_first, class_items, class_one, class_dash, class_last, class_escape, class_far, State, outside, marked, escaping, counting, in_class, with_mark, close, go, done, class_move, class_step, step}
 use Rattle.helix_regex.proofs.Texts.{fits-pushed}
 use Rattle.helix_regex.proofs.Sound.{frames_text, written, FitFrames, Fine, Leaves, settled_fits, close_leaves}
 use Rattle.helix_regex.proofs.SoundSteps.{step_leaves}

@@ -1,15 +1,15 @@
 -- Ranges in ascending order that are joined where they touch are separate.
-use Rattle.std.proofs.Common.{◌≡◌, ℕ, zero, suc, ◌+◌, ◌-◌, ◌≤◌, ◌<◌, ◌⊎◌, inl, inr, min, max, Bool, true, false, ◌||◌, ◌&&◌, nat_le, nat_lt, Option, Some, None, List, [], ◌∷◌, ◌++◌, length, get_or, refl, sym, ◌∙◌, ap, subst, arith}
+use Rattle.std.proofs.Common.{◌≡◌, ℕ, ◌+◌, ◌-◌, ◌≤◌, ◌<◌, inl, inr, max, Bool, true, false, ◌||◌, ◌&&◌, nat_lt, None, List, [], ◌∷◌, refl, sym, ◌∙◌, ap, arith}
 use Rattle.std.proofs.lemmas.Bool.{leb-true, le-leb, ltb-true, lt-ltb, leb-false, ltb-false, cases_lt}
-use Rattle.std.specs.List.Sorted.{IsPermutation, IsSortedWithin}
+use Rattle.std.specs.List.Sorted.{IsPermutation}
 use Rattle.std.proofs.lemmas.List.Sorted.{list_any-IsPermutation}
 use Rattle.helix_base.specs.Ranges.{is_listed}
 use Rattle.helix_base.specs.Alphabet.{is_in_range}
 use Rattle.helix_regex.specs.Meaning.{are_separate, AreRangesOf}
 use Rattle.helix_regex.specs.Sets.{Ascending, touches, joined, joined_from}
 use Rattle.helix_regex.proofs.OneRegex.{within, is_within}
-use Rattle.helix_regex.proofs.RangeSets.{same_test, or-assoc, or-false}
-use Rattle.helix_regex.proofs.Decides.{bool_false, both_of, either_of, choose}
+use Rattle.helix_regex.proofs.RangeSets.{same_test, or-assoc}
+use Rattle.helix_regex.proofs.Decides.{bool_false, either_of, choose}
 
 abbrev Pairs : Type 0
 Pairs = List (ℕ × ℕ)

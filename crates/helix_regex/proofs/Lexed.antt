@@ -1,7 +1,6 @@
 -- The tokens of a front of a pattern.
-use Rattle.std.proofs.Common.{◌≡◌, ◌≢◌, ℕ, ◌+◌, ◌<◌, ◌≤◌, Bool, true, false, IsTrue, ◌==◌, ◌&&◌, Option, Some, None, List, [], ◌∷◌, ◌++◌, length, take, drop, get_or, refl, sym, ◌∙◌, ap, subst, append_assoc, arith, length-append, cond, min, ◌*◌, ◌-◌}
-use Rattle.std.proofs.lemmas.List.{append-nil, take_more, take_all, take-append-drop, length-take-le}
-use Rattle.std.proofs.Math.Seq.{take-length, take-add}
+use Rattle.std.proofs.Common.{◌≡◌, ℕ, ◌+◌, Bool, true, false, Option, Some, None, List, [], ◌∷◌, ◌++◌, length, refl, sym, ◌∙◌, ap, append_assoc, arith, length-append}
+use Rattle.std.proofs.lemmas.List.{append-nil}
 use Rattle.helix_regex.specs.declared.token.Token.{Token}
 use Rattle.helix_regex.specs.declared.token.Token.TheVariants as token
 use Rattle.helix_regex.specs.declared.lexer.Lexer.{Lexer}
@@ -10,24 +9,17 @@ use Rattle.helix_regex.specs.declared.sign.Sign.TheVariants as sign_is
 use Rattle.helix_regex.specs.declared.sign.EscapeSign.{EscapeSign}
 use Rattle.helix_regex.specs.declared.sign.EscapeSign.TheVariants as escape_is
 use Rattle.helix_regex.specs.declared.sign.CountSign.{CountSign}
-use Rattle.helix_regex.specs.declared.sign.CountSign.TheVariants as count_is
 use Rattle.helix_regex.specs.declared.mode.Mode.{Mode}
 use Rattle.helix_regex.specs.declared.mode.Mode.TheVariants as mode
-use Rattle.helix_regex.specs.declared.mode.Advance.{Advance}
-use Rattle.helix_regex.specs.declared.mode.Advance.TheVariants as advance
-use Rattle.helix_regex.specs.Pattern.{Single, literal, dot, escape, set, class, Count, star, plus, question, exactly, at_least, between, Quant, once, times, Pattern, end, bar, caret, dollar, one, group, single_text, opening, pattern_text, Writes}
-use Rattle.helix_regex.specs.Scan.{sign, escape_sign, count_sign, mode_step, settled_advance, opened_advance, atom_advance, quantifier_advance, escape_advance, count_advance, class_advance, stay_if}
-use Rattle.helix_regex.specs.Machine.{append, Atom, alone, grouped, piece, Last, nothing, opened, atom, repeated, settled, Frame, Counting, count_opened, count_least, count_comma, count_most, InClass, class_opened, State, outside, marked, escaping, counting, in_class, start, with_mark, close, settled_step, outside_step, marked_step, escape_step, count_step, ClassMove, refuse, go, done, class_move, class_step, step, on_some, run, mode_of, class_mode_of}
-use Rattle.helix_regex.specs.Tokens.{exclusion, single_tokens, count_token, tokens, capped}
-use Rattle.helix_regex.specs.Lexing.{option_list, mode_after, lexer_next, lexer_step, outside_token, escape_token, count_token_in, class_emitted, emitted, emitted_in}
-use Rattle.helix_regex.proofs.Texts.{pattern_text-append, atom_text}
-use Rattle.helix_regex.proofs.Sound.{frames_text, counting_text, written, Fine, with_atom, IsPlain, Leaves}
-use Rattle.helix_regex.proofs.SoundSteps.{step_leaves}
-use Rattle.helix_regex.proofs.ClassSound.{class_so_far}
-use Rattle.helix_regex.proofs.Reading.{reads_all, all_read, at_place, all_of, behind, begin}
-use Rattle.helix_regex.proofs.Scanned.{run-append}
-use Rattle.helix_regex.proofs.TokenTexts.{tokens-append, frames_tokens, body, size, body-append, body-counted, capped-push}
-use Rattle.helix_regex.proofs.ClassLexed.{in_mode, items_read, class_tokens, ClassKept, ClassLexes, class_lexes}
+use Rattle.helix_regex.specs.Pattern.{literal, dot, escape, set, Count, star, plus, question, once, Pattern, end, bar, caret, dollar, group, opening, pattern_text}
+use Rattle.helix_regex.specs.Scan.{atom_advance, count_advance}
+use Rattle.helix_regex.specs.Machine.{append, Atom, alone, piece, opened, atom, repeated, settled, Frame, Counting, count_opened, count_least, count_comma, count_most, State, outside, marked, escaping, counting, in_class, with_mark, close, settled_step, outside_step, marked_step, escape_step}
+use Rattle.helix_regex.specs.Tokens.{count_token, tokens, capped}
+use Rattle.helix_regex.specs.Lexing.{option_list, mode_after, lexer_next, outside_token, escape_token}
+use Rattle.helix_regex.proofs.Texts.{atom_text}
+use Rattle.helix_regex.proofs.Sound.{frames_text, counting_text, written, with_atom}
+use Rattle.helix_regex.proofs.TokenTexts.{frames_tokens, body, size, body-append, body-counted}
+use Rattle.helix_regex.proofs.ClassLexed.{in_mode, class_tokens, ClassKept}
 
 -- the tokens up to a state
 abbrev pub state_tokens : State → List Token

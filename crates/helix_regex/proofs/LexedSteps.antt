@@ -1,36 +1,24 @@
 -- Each character of a pattern ends its tokens.
-use Rattle.std.proofs.Common.{◌≡◌, ◌≢◌, ℕ, ◌+◌, ◌<◌, ◌≤◌, Bool, true, false, IsTrue, ◌==◌, ◌&&◌, Option, Some, None, List, [], ◌∷◌, ◌++◌, length, take, drop, get_or, refl, sym, ◌∙◌, ap, subst, append_assoc, arith, length-append, cond, min, ◌*◌, ◌-◌}
-use Rattle.std.proofs.lemmas.List.{append-nil, take_more, take_all, take-append-drop, length-take-le}
-use Rattle.std.proofs.Math.Seq.{take-length, take-add}
+use Rattle.std.proofs.Common.{◌≡◌, ℕ, ◌+◌, Bool, true, false, ◌==◌, ◌&&◌, Some, None, List, [], ◌∷◌, ◌++◌, length, refl, sym, ◌∙◌, ap, subst, append_assoc, arith, length-append, cond}
+use Rattle.std.proofs.lemmas.List.{append-nil}
 use Rattle.helix_regex.specs.declared.token.Token.{Token}
 use Rattle.helix_regex.specs.declared.token.Token.TheVariants as token
 use Rattle.helix_regex.specs.declared.lexer.Lexer.{Lexer}
-use Rattle.helix_regex.specs.declared.sign.Sign.{Sign}
-use Rattle.helix_regex.specs.declared.sign.Sign.TheVariants as sign_is
-use Rattle.helix_regex.specs.declared.sign.EscapeSign.{EscapeSign}
-use Rattle.helix_regex.specs.declared.sign.EscapeSign.TheVariants as escape_is
 use Rattle.helix_regex.specs.declared.sign.CountSign.{CountSign}
 use Rattle.helix_regex.specs.declared.sign.CountSign.TheVariants as count_is
-use Rattle.helix_regex.specs.declared.mode.Mode.{Mode}
 use Rattle.helix_regex.specs.declared.mode.Mode.TheVariants as mode
-use Rattle.helix_regex.specs.declared.mode.Advance.{Advance}
 use Rattle.helix_regex.specs.declared.mode.Advance.TheVariants as advance
-use Rattle.helix_regex.specs.Pattern.{Single, literal, dot, escape, set, class, Count, star, plus, question, exactly, at_least, between, Quant, once, times, Pattern, end, bar, caret, dollar, one, group, single_text, opening, pattern_text, Writes}
-use Rattle.helix_regex.specs.Scan.{sign, escape_sign, count_sign, mode_step, settled_advance, opened_advance, atom_advance, quantifier_advance, escape_advance, count_advance, class_advance, stay_if}
-use Rattle.helix_regex.specs.Machine.{append, Atom, alone, grouped, piece, Last, nothing, opened, atom, repeated, settled, Frame, Counting, count_opened, count_least, count_comma, count_most, InClass, class_opened, class_first, class_items, class_one, class_dash, class_last, class_escape, class_far, State, outside, marked, escaping, counting, in_class, start, with_mark, close, settled_step, outside_step, marked_step, escape_step, count_step, ClassMove, refuse, go, done, class_move, class_step, step, on_some, run, mode_of, class_mode_of}
-use Rattle.helix_regex.specs.Tokens.{exclusion, single_tokens, count_token, tokens, capped}
-use Rattle.helix_regex.specs.Lexing.{option_list, mode_after, lexer_next, lexer_step, outside_token, escape_token, count_token_in, class_emitted, emitted, emitted_in}
-use Rattle.helix_regex.proofs.Texts.{pattern_text-append, atom_text}
-use Rattle.helix_regex.proofs.Sound.{frames_text, counting_text, written, Fine, with_atom, IsPlain, Leaves}
-use Rattle.helix_regex.proofs.SoundSteps.{step_leaves}
+use Rattle.helix_regex.specs.Pattern.{class, exactly, at_least, between, once, Pattern, pattern_text}
+use Rattle.helix_regex.specs.Scan.{sign, escape_sign, count_sign, class_advance}
+use Rattle.helix_regex.specs.Machine.{append, Atom, alone, piece, nothing, opened, atom, repeated, Frame, Counting, count_opened, count_least, count_comma, count_most, InClass, class_opened, class_first, class_items, class_one, class_dash, class_last, class_escape, class_far, State, outside, marked, escaping, counting, in_class, count_step, ClassMove, refuse, go, done, class_move, class_step, step, mode_of, class_mode_of}
+use Rattle.helix_regex.specs.Tokens.{exclusion, single_tokens, capped}
+use Rattle.helix_regex.specs.Lexing.{option_list, mode_after, lexer_next, lexer_step, count_token_in, class_emitted, emitted}
+use Rattle.helix_regex.proofs.Sound.{frames_text, written, Fine}
 use Rattle.helix_regex.proofs.ClassSound.{class_so_far}
-use Rattle.helix_regex.proofs.Reading.{reads_all, all_read, at_place, all_of, behind, begin}
-use Rattle.helix_regex.proofs.Scanned.{run-append}
-use Rattle.helix_regex.proofs.TokenTexts.{tokens-append, frames_tokens, body, size, body-append, body-counted, capped-push}
+use Rattle.helix_regex.proofs.TokenTexts.{body, size, body-append, capped-push}
 use Rattle.helix_regex.proofs.ClassLexed.{in_mode, items_read, class_tokens, ClassKept, ClassLexes, class_lexes}
 use Rattle.helix_regex.specs.Lexing.{digit_or, with_digit}
 use Rattle.helix_regex.specs.Machine.{count_mode}
-use Rattle.helix_regex.specs.Faults.{AreCharacters}
 use Rattle.helix_regex.proofs.Lexed.{state_tokens, Kept, Lexes, settled_lexes, atom_lexes, repeated_lexes, opened_lexes, marked_lexes, escape_lexes, more_in, more_far, closes, count_next}
 
 digits_on : (s : CountSign) (a b : ℕ) → s ≡ count_is.Digit → digit_or s a b ≡ a

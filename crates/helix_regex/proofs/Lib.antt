@@ -20,7 +20,12 @@ pub mod LexedSteps
 pub mod Tokenized
 pub mod Deep
 pub mod Quiet
-pub mod Phased
+pub mod Choosing
+pub mod RangePhase
+pub mod CountPhase
+pub mod BarPhase
+pub mod AnchorPhase
+pub mod DepthPhase
 pub mod Counted
 pub mod Faulty
 pub mod Letters

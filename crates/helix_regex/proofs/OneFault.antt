@@ -1,5 +1,5 @@
 -- A text has at most one first fault.
-use Rattle.std.proofs.Common.{◌≡◌, ℕ, ◌<◌, inl, inr, ◌⊎◌, true, false, IsTrue, Option, Some, None, List, [], length, take, get_or, refl, sym, ◌∙◌, ap, subst, arith}
+use Rattle.std.proofs.Common.{◌≡◌, ℕ, ◌<◌, inl, inr, IsTrue, Some, None, List, take, sym, ◌∙◌, ap, subst, arith}
 use Rattle.std.proofs.lemmas.Bool.{cases_order}
 use Rattle.std.proofs.lemmas.List.{get_or-take, length-take-le}
 use Rattle.helix_regex.specs.declared.fault.RegexFault.{RegexFault}
@@ -7,7 +7,7 @@ use Rattle.helix_regex.specs.declared.fault.RegexRule.{RegexRule}
 use Rattle.helix_regex.specs.declared.fault.RegexRule.TheVariants as rule
 use Rattle.helix_regex.specs.Characters.{is_character}
 use Rattle.helix_regex.specs.Pattern.{Pattern, Writes}
-use Rattle.helix_regex.specs.Faults.{AreCharacters, LeavesAlphabet, LeavesGrammar, bad_anchors, bad_ranges, bad_counts, is_too_large, first_of, least_of, Breaks, FirstFault}
+use Rattle.helix_regex.specs.Faults.{LeavesAlphabet, LeavesGrammar, bad_ranges, bad_counts, is_too_large, first_of, least_of, Breaks, FirstFault}
 use Rattle.helix_regex.specs.Phases.{fault_at, first_rule}
 use Rattle.helix_regex.proofs.Reading as reading
 use Rattle.helix_regex.proofs.Scanned.{character_at}

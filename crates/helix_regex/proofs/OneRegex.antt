@@ -1,11 +1,11 @@
 -- A text spells at most one expression.
-use Rattle.std.proofs.Common.{◌≡◌, ℕ, ◌+◌, ◌≤◌, ◌<◌, ◌⊎◌, inl, inr, Bool, true, false, IsTrue, nat_le, nat_lt, ◌&&◌, ◌||◌, List, [], ◌∷◌, refl, sym, ◌∙◌, ap, subst, arith, eq-eqb}
+use Rattle.std.proofs.Common.{◌≡◌, ℕ, ◌+◌, ◌≤◌, ◌<◌, inl, inr, Bool, true, false, nat_le, ◌&&◌, ◌||◌, List, [], ◌∷◌, refl, sym, ◌∙◌, ap, subst, arith}
 use Rattle.std.proofs.lemmas.Bool.{leb-true, ltb-true, le-leb, cases_lt, cases_order}
 use Rattle.helix_base.specs.Alphabet.{is_in_range}
 use Rattle.helix_base.specs.Ranges.{is_listed}
-use Rattle.helix_regex.specs.declared.expr.Expr.{Expr, Chars}
+use Rattle.helix_regex.specs.declared.expr.Expr.{Chars}
 use Rattle.helix_regex.specs.declared.regex.Regex.{Regex}
-use Rattle.helix_regex.specs.Pattern.{Single, Quant, Pattern, end, bar, caret, dollar, one, group, Writes}
+use Rattle.helix_regex.specs.Pattern.{Pattern, end, bar, caret, dollar, one, group}
 use Rattle.helix_regex.specs.Meaning.{are_separate, AreRangesOf, single_has, Parts, HasParts, behind_bar, with_piece, quantified, together, has_caret, has_dollar, MeansRegex, SpellsPattern}
 use Rattle.helix_regex.proofs.Reading.{one_pattern}
 use Rattle.helix_regex.proofs.Decides.{bool_false, both_of, either_of}

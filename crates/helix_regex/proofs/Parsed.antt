@@ -1,5 +1,5 @@
 -- A text that breaks no rule has no fault.
-use Rattle.std.proofs.Common.{◌≡◌, ◌≢◌, ℕ, ◌+◌, ◌<◌, Bool, true, false, IsTrue, Option, Some, None, IfSome, IfNone, List, [], ◌∷◌, length, get_or, take, refl, sym, ◌∙◌, ap, subst, arith}
+use Rattle.std.proofs.Common.{◌≡◌, ◌≢◌, ℕ, true, false, Option, Some, None, IfSome, IfNone, List, [], length, sym, ◌∙◌, ap, subst}
 use Rattle.helix_regex.specs.declared.token.Token.{Token}
 use Rattle.helix_regex.specs.declared.regex.Regex.{Regex}
 use Rattle.helix_regex.specs.declared.fault.RegexFault.{RegexFault}
@@ -7,7 +7,7 @@ use Rattle.helix_regex.specs.declared.fault.RegexRule.{RegexRule}
 use Rattle.helix_regex.specs.declared.fault.RegexRule.TheVariants as rule
 use Rattle.helix_regex.specs.Pattern.{Pattern, pattern_text, Writes}
 use Rattle.helix_regex.specs.Meaning.{MeansRegex, SpellsPattern}
-use Rattle.helix_regex.specs.Faults.{AreCharacters, LeavesAlphabet, LeavesGrammar, bad_anchors, bad_ranges, bad_counts, is_too_large, first_of, least_of, Breaks, FirstFault, IsSound}
+use Rattle.helix_regex.specs.Faults.{AreCharacters, bad_anchors, bad_ranges, bad_counts, is_too_large, first_of, least_of, Breaks, FirstFault, IsSound}
 use Rattle.helix_regex.specs.Tokens.{tokens}
 use Rattle.helix_regex.specs.Phases.{token_fault}
 use Rattle.helix_regex.proofs.Reading as reading

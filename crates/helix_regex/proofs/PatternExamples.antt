@@ -1,10 +1,10 @@
 -- The grammar of patterns, its rules and its meaning at known patterns.
-use Rattle.std.proofs.Common.{◌≡◌, ℕ, suc, zero, Bool, true, false, List, [], ◌∷◌, ◌++◌, Some, None, refl, codes}
+use Rattle.std.proofs.Common.{◌≡◌, ℕ, suc, zero, true, false, [], ◌∷◌, refl, codes}
 use Rattle.helix_regex.specs.declared.expr.Expr.{Expr, Empty, Chars}
-use Rattle.helix_regex.specs.declared.expr.Expr.TheViews.{Seq, Alt, Repeat}
-use Rattle.helix_regex.specs.Pattern.{End, plain, escaped, Item, single, range, set_item, dash, Single, literal, dot, escape, set, class, Count, star, plus, question, exactly, at_least, between, Quant, once, times, Pattern, end, bar, caret, dollar, one, group, pattern_text, Fits, FitsClass}
-use Rattle.helix_regex.specs.Meaning.{single_has, are_separate, HasParts, together, Parts, number_of}
-use Rattle.helix_regex.specs.Faults.{bad_anchors, bad_ranges, bad_counts, is_too_large, positions, depth}
+use Rattle.helix_regex.specs.declared.expr.Expr.TheViews.{Seq, Alt}
+use Rattle.helix_regex.specs.Pattern.{plain, escaped, single, range, dash, literal, dot, set, class, exactly, at_least, between, once, times, Pattern, end, bar, caret, dollar, one, group, pattern_text}
+use Rattle.helix_regex.specs.Meaning.{single_has, are_separate, together}
+use Rattle.helix_regex.specs.Faults.{bad_anchors, bad_ranges, bad_counts, is_too_large, positions}
 
 abbrev a : Pattern → Pattern
 a p = one (literal 97) once p

@@ -1,10 +1,10 @@
 -- The tokens of an atom say nothing of anchors, bars, counts and groups.
-use Rattle.std.proofs.Common.{◌≡◌, ℕ, ◌+◌, ◌≤◌, max, Bool, true, false, ◌||◌, Option, Some, None, List, [], ◌∷◌, ◌++◌, length, refl, sym, ◌∙◌, ap, append_assoc, arith}
+use Rattle.std.proofs.Common.{◌≡◌, ℕ, ◌+◌, ◌≤◌, max, Bool, true, false, ◌||◌, Option, None, List, [], ◌∷◌, ◌++◌, length, refl, ◌∙◌, ap, arith}
 use Rattle.std.specs.List.{list_any}
 use Rattle.helix_regex.specs.declared.token.Token.{Token}
 use Rattle.helix_regex.specs.declared.token.Token.TheVariants as token
 use Rattle.helix_regex.specs.Pattern.{Item, single, range, set_item, dash, Single, literal, dot, escape, set, class, item_text}
-use Rattle.helix_regex.specs.Tokens.{item_tokens, exclusion, items_at, single_tokens}
+use Rattle.helix_regex.specs.Tokens.{item_tokens, single_tokens}
 use Rattle.helix_regex.specs.Faults.{lesser}
 use Rattle.helix_regex.specs.Phases.{or_else, first_some, least_some, level, bar_at, outer_bar, deepest, miscounted_at, stray_at, is_caret, is_dollar}
 use Rattle.helix_regex.proofs.Deep.{deepest_least}

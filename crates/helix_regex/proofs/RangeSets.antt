@@ -1,8 +1,7 @@
 -- Sets of characters as lists of ranges.
-use Rattle.std.proofs.Common.{◌≡◌, ℕ, ◌+◌, ◌-◌, ◌≤◌, ◌<◌, ◌⊎◌, inl, inr, min, max, Bool, true, false, ◌||◌, ◌&&◌, not, ◌==◌, ◌≢◌, eq-eqb, nat_le, nat_lt, get_or, drop-cons, add-one, IsTrue, List, [], ◌∷◌, ◌++◌, length, drop, refl, sym, ◌∙◌, ap, subst, arith}
+use Rattle.std.proofs.Common.{◌≡◌, ℕ, ◌+◌, ◌-◌, ◌≤◌, ◌<◌, ◌⊎◌, inl, inr, min, max, Bool, true, false, ◌||◌, ◌&&◌, not, ◌==◌, ◌≢◌, eq-eqb, nat_le, nat_lt, get_or, drop-cons, add-one, List, [], ◌∷◌, ◌++◌, length, drop, refl, sym, ◌∙◌, ap, subst, arith}
 use Rattle.std.proofs.lemmas.Bool.{leb-true, le-leb, ltb-true, lt-ltb, eqb-true, cases_lt, cond-false}
 use Rattle.std.proofs.lemmas.List.{drop_all}
-use Rattle.std.specs.List.{list_any}
 use Rattle.helix_base.specs.Ranges.{is_listed}
 use Rattle.helix_base.specs.Alphabet.{is_in_range}
 use Rattle.helix_regex.specs.Characters.{is_character, is_word, set_has}

@@ -1,15 +1,14 @@
 -- The text of a pattern is read as that pattern.
-use Rattle.std.proofs.Common.{◌≡◌, ◌≢◌, ℕ, Bool, true, false, IsTrue, ◌==◌, ◌&&◌, Option, Some, None, List, [], ◌∷◌, ◌++◌, refl, sym, ◌∙◌, ap, subst, append_assoc}
+use Rattle.std.proofs.Common.{◌≡◌, ℕ, Bool, true, false, IsTrue, Some, List, [], ◌∷◌, ◌++◌, refl, sym, ◌∙◌, ap, append_assoc}
 use Rattle.std.proofs.lemmas.List.{append-nil}
 use Rattle.std.proofs.lemmas.Bool.{cond-true}
 use Rattle.helix_regex.specs.declared.sign.Sign.{Sign}
 use Rattle.helix_regex.specs.declared.sign.Sign.TheVariants as sign_is
-use Rattle.helix_regex.specs.declared.sign.CountSign.{CountSign}
 use Rattle.helix_regex.specs.declared.sign.CountSign.TheVariants as count_is
-use Rattle.helix_regex.specs.Characters.{is_digit, is_literal}
+use Rattle.helix_regex.specs.Characters.{is_digit}
 use Rattle.helix_regex.specs.Pattern.{Single, literal, dot, escape, set, class, Count, star, plus, question, exactly, at_least, between, Quant, once, times, Pattern, end, bar, caret, dollar, one, group, single_text, count_text, quant_text, opening, pattern_text, IsNumeral, AreDigits, FitsSingle, FitsCount, FitsQuant, Fits, Writes}
-use Rattle.helix_regex.specs.Scan.{sign, escape_sign, count_sign}
-use Rattle.helix_regex.specs.Machine.{append, Atom, alone, grouped, piece, Last, nothing, opened, atom, repeated, settled, Frame, Counting, count_opened, count_least, count_comma, count_most, State, outside, marked, escaping, counting, in_class, start, close, settled_step, outside_step, escape_step, count_step, class_opened, step, on_some, run}
+use Rattle.helix_regex.specs.Scan.{sign, count_sign}
+use Rattle.helix_regex.specs.Machine.{append, Atom, alone, grouped, piece, Last, nothing, opened, atom, repeated, settled, Frame, count_opened, count_least, count_comma, count_most, State, outside, marked, escaping, counting, in_class, start, settled_step, outside_step, escape_step, count_step, class_opened, step, on_some, run}
 use Rattle.helix_regex.proofs.Texts.{append-assoc, append-end}
 use Rattle.helix_regex.proofs.ClassReads.{class_read, itself_sign, set_sign}
 

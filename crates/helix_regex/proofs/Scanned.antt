@@ -1,6 +1,6 @@
 -- A front of a text that is scanned and not refused.
-use Rattle.std.proofs.Common.{◌≡◌, ◌≢◌, ℕ, zero, suc, ◌+◌, ◌<◌, ◌≤◌, Bool, true, false, IsTrue, ◌==◌, ◌&&◌, Option, Some, None, List, [], ◌∷◌, ◌++◌, length, take, drop, get_or, refl, sym, ◌∙◌, ap, subst, append_assoc, arith, add-one, eq-eqb, ◌-◌, MatchOption}
-use Rattle.std.proofs.lemmas.List.{append-nil, take_all, take_more, take-append-drop, drop-take}
+use Rattle.std.proofs.Common.{◌≡◌, ℕ, zero, suc, ◌+◌, ◌<◌, ◌≤◌, Bool, true, false, IsTrue, ◌==◌, ◌&&◌, Option, Some, None, List, [], ◌∷◌, ◌++◌, length, take, drop, get_or, refl, sym, ◌∙◌, ap, subst, append_assoc, arith, add-one, eq-eqb, ◌-◌, MatchOption}
+use Rattle.std.proofs.lemmas.List.{take_all, take_more}
 use Rattle.std.proofs.Math.Seq.{take-length, take-add}
 use Rattle.std.proofs.lemmas.Bool.{eqb-true}
 use Rattle.helix_regex.specs.declared.mode.Mode.{Mode}
@@ -9,10 +9,10 @@ use Rattle.helix_regex.specs.declared.mode.Advance.{Advance}
 use Rattle.helix_regex.specs.declared.mode.Advance.TheVariants as advance
 use Rattle.helix_regex.specs.declared.scan.Position.{Position}
 use Rattle.helix_regex.specs.Characters.{is_character}
-use Rattle.helix_regex.specs.Pattern.{Pattern, end, pattern_text, Fits, Writes}
+use Rattle.helix_regex.specs.Pattern.{Pattern, pattern_text, Fits, Writes}
 use Rattle.helix_regex.specs.Faults.{AreCharacters, IsViable, LeavesGrammar}
 use Rattle.helix_regex.specs.Scan.{moved, position_step, mode_step, may_end}
-use Rattle.helix_regex.specs.Machine.{Last, nothing, opened, atom, repeated, settled, Frame, Counting, count_opened, count_least, count_comma, count_most, State, outside, marked, escaping, counting, in_class, start, step, on_some, run, mode_of, frames_of}
+use Rattle.helix_regex.specs.Machine.{Last, nothing, opened, atom, repeated, settled, Frame, count_opened, count_least, count_comma, count_most, State, outside, marked, escaping, counting, in_class, start, step, on_some, run, mode_of}
 use Rattle.helix_regex.proofs.Agreeing.{Agrees, At, agrees, depth_of}
 use Rattle.helix_regex.proofs.Sound.{frames_text, written, Fine, Leaves, settled_fits}
 use Rattle.helix_regex.proofs.SoundSteps.{step_leaves}

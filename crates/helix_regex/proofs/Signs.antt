@@ -1,5 +1,5 @@
 -- What the sign of a character tells.
-use Rattle.std.proofs.Common.{◌≡◌, ℕ, Bool, true, false, IsTrue, ◌==◌, refl, List}
+use Rattle.std.proofs.Common.{◌≡◌, ℕ, IsTrue, ◌==◌}
 use Rattle.std.proofs.lemmas.Bool.{eqb-true}
 use Rattle.helix_regex.specs.declared.sign.Sign.{Sign}
 use Rattle.helix_regex.specs.declared.sign.Sign.TheVariants as sign_is

@@ -1,7 +1,6 @@
 -- What is read is the text of what is put together.
-use Rattle.std.proofs.Common.{◌≡◌, ◌≢◌, ◌⊎◌, inl, inr, ℕ, Bool, true, false, IsTrue, ◌==◌, ◌&&◌, not, Option, Some, None, List, [], ◌∷◌, ◌++◌, refl, sym, ◌∙◌, ap, subst, append_assoc, codes}
+use Rattle.std.proofs.Common.{◌≡◌, ◌≢◌, ℕ, Bool, true, false, IsTrue, Option, Some, None, List, [], ◌∷◌, ◌++◌, refl, sym, ◌∙◌, ap, append_assoc, codes}
 use Rattle.std.proofs.lemmas.List.{append-nil}
-use Rattle.std.proofs.lemmas.Bool.{eqb-true}
 use Rattle.helix_regex.specs.declared.sign.Sign.{Sign}
 use Rattle.helix_regex.specs.declared.sign.Sign.TheVariants as sign_is
 use Rattle.helix_regex.specs.declared.sign.EscapeSign.{EscapeSign}
@@ -9,13 +8,11 @@ use Rattle.helix_regex.specs.declared.sign.EscapeSign.TheVariants as escape_is
 use Rattle.helix_regex.specs.declared.sign.CountSign.{CountSign}
 use Rattle.helix_regex.specs.declared.sign.CountSign.TheVariants as count_is
 use Rattle.helix_regex.specs.Characters.{is_digit}
-use Rattle.helix_regex.specs.Pattern.{End, Item, Single, literal, dot, escape, set, class, Count, star, plus, question, exactly, at_least, between, Quant, once, times, Pattern, end, bar, caret, dollar, one, group, items_text, class_text, count_text, quant_text, opening, pattern_text, IsNumeral, AreDigits, FitItems, FitsClass, FitsSingle, FitsCount, FitsQuant, Fits, BeginsWithCaret, parts_ampersands, Writes}
-use Rattle.helix_regex.specs.Scan.{sign, escape_sign, count_sign, class_sign}
-use Rattle.helix_regex.specs.Machine.{append, Atom, alone, grouped, piece, Last, nothing, opened, atom, repeated, settled, Frame, Counting, count_opened, count_least, count_comma, count_most, InClass, class_opened, class_first, class_items, class_one, class_dash, class_last, class_escape, class_far, State, outside, marked, escaping, counting, in_class, start, with_mark, close, settled_step, outside_step, marked_step, escape_step, count_step, ClassMove, refuse, go, done, first_move, class_move, class_step, step, on_some, run}
-use Rattle.helix_regex.proofs.Texts.{pattern_text-append, append-end, fits-append, atom_text, FitsAtom, piece-text, fits-piece, pushed-text, fits-pushed}
-use Rattle.helix_regex.proofs.Signs.{SignMeans, sign_means, EscapeMeans, escape_means, CountMeans, count_means}
-use Rattle.helix_regex.proofs.ClassSound.{ClassFine, class_so_far, caret_text, Moved, class_moved, push_some}
-use Rattle.helix_regex.proofs.Decides.{choose, bool_false}
+use Rattle.helix_regex.specs.Pattern.{literal, dot, escape, set, Count, star, plus, question, exactly, at_least, between, once, times, Pattern, end, bar, caret, dollar, count_text, quant_text, opening, pattern_text, IsNumeral, AreDigits, FitsCount, Fits, BeginsWithCaret, parts_ampersands}
+use Rattle.helix_regex.specs.Machine.{append, Atom, alone, grouped, Last, nothing, opened, atom, repeated, settled, Frame, Counting, count_opened, count_least, count_comma, count_most, InClass, class_opened, class_first, class_items, class_one, class_dash, class_last, class_escape, class_far, State, outside, marked, escaping, counting, in_class, close, settled_step, outside_step, marked_step, escape_step, count_step}
+use Rattle.helix_regex.proofs.Texts.{pattern_text-append, fits-append, atom_text, FitsAtom, pushed-text, fits-pushed}
+use Rattle.helix_regex.proofs.Signs.{SignMeans, EscapeMeans, CountMeans}
+use Rattle.helix_regex.proofs.ClassSound.{ClassFine, class_so_far}
 
 abbrev pub frames_text : List Frame → List ℕ
 frames_text [] = []

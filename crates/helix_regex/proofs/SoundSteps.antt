@@ -1,19 +1,17 @@
 -- Each character leads from a text that is read to one that has it too.
-use Rattle.std.proofs.Common.{◌≡◌, ◌≢◌, ◌⊎◌, inl, inr, ℕ, Bool, true, false, IsTrue, ◌==◌, ◌&&◌, not, Option, Some, None, List, [], ◌∷◌, ◌++◌, refl, sym, ◌∙◌, ap, subst, append_assoc, eq-eqb}
+use Rattle.std.proofs.Common.{◌≡◌, ◌≢◌, ℕ, Bool, true, false, ◌==◌, ◌&&◌, not, Option, Some, None, List, [], ◌∷◌, ◌++◌, refl, sym, ◌∙◌, ap, subst, append_assoc, eq-eqb}
 use Rattle.std.proofs.lemmas.List.{append-nil}
 use Rattle.std.proofs.lemmas.Bool.{eqb-true}
 use Rattle.helix_regex.specs.declared.sign.ClassSign.{ClassSign}
 use Rattle.helix_regex.specs.declared.sign.ClassSign.TheVariants as class_is
 use Rattle.helix_regex.specs.declared.sign.EscapeSign.{EscapeSign}
 use Rattle.helix_regex.specs.declared.sign.EscapeSign.TheVariants as escape_is
-use Rattle.helix_regex.specs.Pattern.{End, Item, plain, escaped, single, range, set_item, dash, Single, class, Pattern, end, once, group, items_text, class_text, opening, pattern_text, FitItems, FitsClass, Fits, BeginsWithCaret, parts_ampersands, Writes}
+use Rattle.helix_regex.specs.Pattern.{End, Item, class, Pattern, items_text, class_text, pattern_text, Fits, BeginsWithCaret, parts_ampersands}
 use Rattle.helix_regex.specs.Scan.{sign, escape_sign, count_sign, class_sign}
-use Rattle.helix_regex.specs.Machine.{append, alone, grouped, Last, nothing, opened, atom, repeated, settled, Frame, InClass, class_opened, class_first, class_items, class_one, class_dash, class_last, class_escape, class_far, State, outside, marked, escaping, counting, in_class, start, ClassMove, refuse, go, done, first_move, items_move, one_move, dash_move, last_move, class_escape_move, far_move, opened_move, class_move, class_step, step, on_some, run}
-use Rattle.helix_regex.proofs.Texts.{FitsAtom}
+use Rattle.helix_regex.specs.Machine.{alone, nothing, opened, atom, repeated, Frame, InClass, class_opened, class_first, class_items, class_one, class_dash, class_last, class_escape, class_far, State, outside, marked, escaping, counting, in_class, ClassMove, refuse, go, done, first_move, items_move, one_move, dash_move, last_move, class_escape_move, far_move, opened_move, class_move, class_step, step, on_some, run}
 use Rattle.helix_regex.proofs.Signs.{sign_means, escape_means, count_means}
-use Rattle.helix_regex.proofs.ClassSound.{ClassFine, class_so_far, caret_text, Moved, class_moved}
+use Rattle.helix_regex.proofs.ClassSound.{class_so_far, caret_text, Moved, class_moved}
 use Rattle.helix_regex.proofs.Sound.{frames_text, written, FitFrames, Fine, FitsInClass, is_excluded, NoCaret, last_of, Leaves, with_atom, settled_leaves, atom_leaves, repeated_leaves, opened_leaves, marked_leaves, escape_leaves, count_leaves}
-use Rattle.helix_regex.proofs.Decides.{bool_false}
 
 -- a move leaves a class as excluded as it was
 abbrev Keeps : Bool → ClassMove → Type 0

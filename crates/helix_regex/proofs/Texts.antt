@@ -1,8 +1,8 @@
 -- The text of what is put together.
-use Rattle.std.proofs.Common.{◌≡◌, ℕ, Bool, true, false, List, [], ◌∷◌, ◌++◌, refl, sym, ◌∙◌, ap, append_assoc}
+use Rattle.std.proofs.Common.{◌≡◌, ℕ, List, [], ◌∷◌, ◌++◌, refl, sym, ◌∙◌, ap, append_assoc}
 use Rattle.std.proofs.lemmas.List.{append-nil}
-use Rattle.helix_regex.specs.Pattern.{End, Item, single, range, set_item, dash, Single, Count, Quant, once, times, Pattern, end, bar, caret, dollar, one, group, end_text, item_text, items_text, class_text, single_text, count_text, quant_text, opening, pattern_text, FitsSingle, FitsCount, FitsQuant, Fits}
-use Rattle.helix_regex.specs.Machine.{append, Atom, alone, grouped, piece, Last, nothing, opened, atom, repeated, settled, Frame}
+use Rattle.helix_regex.specs.Pattern.{Item, Quant, Pattern, end, bar, caret, dollar, one, group, item_text, items_text, single_text, quant_text, opening, pattern_text, FitsSingle, FitsQuant, Fits}
+use Rattle.helix_regex.specs.Machine.{append, Atom, alone, grouped, piece}
 
 pub items_text-append : (is js : List Item) → items_text (is ++ js) ≡ items_text is ++ items_text js
 items_text-append [] js = refl

@@ -1,15 +1,15 @@
 -- The tokens of patterns one behind the other.
-use Rattle.std.proofs.Common.{◌≡◌, ℕ, ◌+◌, ◌*◌, ◌-◌, min, Bool, true, false, Some, None, List, [], ◌∷◌, ◌++◌, length, refl, sym, ◌∙◌, ap, subst, append_assoc, arith, length-append, add-zero}
+use Rattle.std.proofs.Common.{◌≡◌, ℕ, ◌+◌, ◌*◌, ◌-◌, min, Bool, List, [], ◌∷◌, ◌++◌, length, refl, sym, ◌∙◌, ap, append_assoc, arith, length-append, add-zero}
 use Rattle.std.proofs.lemmas.List.{append-nil}
 use Rattle.helix_regex.specs.declared.token.Token.{Token}
 use Rattle.helix_regex.specs.declared.token.Token.TheVariants as token
-use Rattle.helix_regex.specs.Pattern.{End, Item, single, range, set_item, dash, Single, class, Count, Quant, once, times, Pattern, end, bar, caret, dollar, one, group, end_text, item_text, items_text, single_text, count_text, quant_text, opening, pattern_text}
+use Rattle.helix_regex.specs.Pattern.{Item, Count, once, times, Pattern, end, bar, caret, dollar, one, group, item_text, items_text, single_text, quant_text, opening, pattern_text}
 use Rattle.helix_regex.specs.Meaning.{number_of, number_behind}
 use Rattle.helix_regex.specs.Faults.{piece_text, group_text}
 use Rattle.helix_regex.specs.Machine.{append, Atom, alone, grouped, piece, Frame}
 use Rattle.helix_regex.specs.Tokens.{item_token, item_tokens, single_tokens, count_token, quant_tokens, tokens, capped}
 use Rattle.helix_regex.specs.Lexing.{with_digit}
-use Rattle.helix_regex.proofs.Texts.{pattern_text-append, atom_text}
+use Rattle.helix_regex.proofs.Texts.{atom_text}
 use Rattle.helix_regex.proofs.Sound.{frames_text}
 
 -- a place behind two texts

@@ -8,15 +8,15 @@ use Rattle.helix_regex.specs.declared.mode.Mode.{Mode}
 use Rattle.helix_regex.specs.declared.mode.Mode.TheVariants as mode
 use Rattle.helix_regex.specs.declared.mode.Advance.{Advance}
 use Rattle.helix_regex.specs.declared.mode.Advance.TheVariants as advance
-use Rattle.helix_regex.specs.Pattern.{Pattern, end, Writes}
+use Rattle.helix_regex.specs.Pattern.{Pattern, Writes}
 use Rattle.helix_regex.specs.Scan.{mode_step}
-use Rattle.helix_regex.specs.Machine.{State, outside, start, settled, step, on_some, run, mode_of}
+use Rattle.helix_regex.specs.Machine.{State, start, step, run, mode_of}
 use Rattle.helix_regex.specs.Tokens.{tokens}
 use Rattle.helix_regex.specs.Lexing.{mode_after, lexer_step, emitted}
 use Rattle.helix_regex.proofs.Agreeing.{Agrees, agrees, depth_of}
 use Rattle.helix_regex.proofs.Sound.{written, Fine, Leaves}
 use Rattle.helix_regex.proofs.SoundSteps.{step_leaves}
-use Rattle.helix_regex.proofs.Reading.{reads_all, all_read, at_place, all_of, behind, begin}
+use Rattle.helix_regex.proofs.Reading.{reads_all, all_read, at_place, behind, begin}
 use Rattle.helix_regex.proofs.Scanned.{run-append, none_after, run_one, front_of}
 use Rattle.helix_regex.proofs.Lexed.{state_tokens, Kept, Lexes}
 use Rattle.helix_regex.proofs.LexedSteps.{step_lexes}

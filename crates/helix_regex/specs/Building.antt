@@ -1,5 +1,5 @@
 -- What each token adds to the expression that is built. Only the crate's private clauses cite it.
-use Rattle.std.specs.Prelude.{◌≡◌, ℕ, ◌==◌, ◌&&◌, not, if◌then◌else◌, Bool, true, false, Option, List, [], ◌∷◌, ◌++◌}
+use Rattle.std.specs.Prelude.{◌≡◌, ℕ, ◌==◌, ◌&&◌, not, Bool, true, false, List, [], ◌∷◌, ◌++◌}
 use Rattle.helix_base.specs.Ranges.{is_listed}
 use Rattle.helix_base.specs.Alphabet.{is_in_range}
 use Rattle.helix_regex.specs.declared.expr.Expr.{Expr, Empty, Chars}

@@ -1,10 +1,10 @@
 -- The rules of a pattern in the order in which they are tested, and the place of the first that is broken.
-use Rattle.std.specs.Prelude.{◌≡◌, ◌⊎◌, ℕ, ◌+◌, ◌*◌, ◌<◌, ◌≤◌, ◌==◌, ◌||◌, nat_lt, min, max, if◌then◌else◌, Bool, true, false, IsTrue, Option, Some, None, List, [], ◌∷◌, ◌++◌, length, take, slice_index}
+use Rattle.std.specs.Prelude.{◌≡◌, ℕ, ◌+◌, ◌*◌, ◌<◌, ◌≤◌, ◌||◌, nat_lt, min, max, if◌then◌else◌, Bool, true, false, IsTrue, Option, Some, None, List, [], ◌∷◌, ◌++◌, length, take, slice_index}
 use Rattle.helix_regex.specs.declared.fault.RegexFault.{RegexFault}
 use Rattle.helix_regex.specs.declared.fault.RegexRule.{RegexRule}
 use Rattle.helix_regex.specs.declared.fault.RegexRule.TheVariants as rule
 use Rattle.helix_regex.specs.Characters.{is_character}
-use Rattle.helix_regex.specs.Pattern.{End, Item, single, range, set_item, dash, Single, class, Count, star, plus, question, exactly, at_least, between, Quant, once, times, Pattern, end, bar, caret, dollar, one, group, item_text, single_text, quant_text, opening, pattern_text, Writes}
+use Rattle.helix_regex.specs.Pattern.{Item, range, Single, class, exactly, at_least, between, Quant, once, times, Pattern, end, bar, caret, dollar, one, group, item_text, single_text, quant_text, opening, pattern_text, Writes}
 use Rattle.helix_regex.specs.Meaning.{code_of, number_of, has_caret, has_dollar}
 
 abbrev pub AreCharacters : List ℕ → Type 0

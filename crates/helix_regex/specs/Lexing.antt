@@ -1,5 +1,5 @@
 -- The tokens that each character ends. Only the crate's private clauses cite it.
-use Rattle.std.specs.Prelude.{ℕ, ◌+◌, ◌-◌, ◌*◌, min, ◌==◌, if◌then◌else◌, Bool, true, false, Option, Some, None, List, [], ◌∷◌, ◌++◌}
+use Rattle.std.specs.Prelude.{ℕ, ◌+◌, ◌-◌, ◌*◌, min, ◌==◌, if◌then◌else◌, Bool, true, false, Option, Some, None, List, [], ◌∷◌}
 use Rattle.helix_regex.specs.declared.token.Token.{Token}
 use Rattle.helix_regex.specs.declared.token.Token.TheVariants as token
 use Rattle.helix_regex.specs.declared.lexer.Lexer.{Lexer}

@@ -1,5 +1,5 @@
 -- How a pattern is put together, character by character. Only the crate's private clauses cite it.
-use Rattle.std.specs.Prelude.{ℕ, zero, suc, ◌+◌, ◌==◌, ◌&&◌, Bool, true, false, Option, Some, None, List, [], ◌∷◌, ◌++◌, length}
+use Rattle.std.specs.Prelude.{ℕ, ◌==◌, ◌&&◌, Bool, true, false, Option, Some, None, List, [], ◌∷◌, ◌++◌}
 use Rattle.helix_regex.specs.declared.sign.Sign.{Sign}
 use Rattle.helix_regex.specs.declared.sign.Sign.TheVariants as sign_is
 use Rattle.helix_regex.specs.declared.sign.EscapeSign.{EscapeSign}

@@ -7,7 +7,7 @@
 --     quant  = "*" | "+" | "?" | "{" digits "}" | "{" digits "," "}" | "{" digits "," digits "}"
 --     atom   = literal | "." | escape | class | "(" alt ")" | "(?:" alt ")"
 --     class  = "[" [ "^" ] item { item } "]"
-use Rattle.std.specs.Prelude.{◌≡◌, ◌≢◌, ◌⊎◌, ℕ, ◌==◌, ◌&&◌, ◌||◌, not, Bool, true, false, IsTrue, List, [], ◌∷◌, ◌++◌, flat_map, codes}
+use Rattle.std.specs.Prelude.{◌≡◌, ◌≢◌, ◌⊎◌, ℕ, ◌==◌, ◌&&◌, not, Bool, true, false, IsTrue, List, [], ◌∷◌, ◌++◌, codes}
 use Rattle.helix_regex.specs.Characters.{is_literal, is_digit, is_punct, is_set_letter, is_class_char}
 
 -- a single character of a class, or the end of a range: as it is, or behind a backslash

@@ -2,7 +2,7 @@
 use Rattle.std.specs.Prelude.{ℕ, ◌+◌, min, Bool, true, false, Some, None, List, [], ◌∷◌, ◌++◌, length}
 use Rattle.helix_regex.specs.declared.token.Token.{Token}
 use Rattle.helix_regex.specs.declared.token.Token.TheVariants as token
-use Rattle.helix_regex.specs.Pattern.{End, Item, single, range, set_item, dash, Single, literal, dot, escape, set, class, Count, star, plus, question, exactly, at_least, between, Quant, once, times, Pattern, end, bar, caret, dollar, one, group, item_text, items_text, single_text, quant_text, opening, pattern_text}
+use Rattle.helix_regex.specs.Pattern.{Item, single, range, set_item, dash, Single, literal, dot, escape, set, class, Count, star, plus, question, exactly, at_least, between, Quant, once, times, Pattern, end, bar, caret, dollar, one, group, item_text, single_text, opening}
 use Rattle.helix_regex.specs.Meaning.{code_of, number_of}
 use Rattle.helix_regex.specs.Faults.{piece_text, group_text}
 

@@ -1,24 +1,11 @@
-//! The expression of a pattern, built from its tokens.
+//! What is built of a pattern: pieces, sequences and groups.
 
-ghost use Rattle.std.specs.Prelude.{◌≡◌, ℕ, ◌++◌, ◌==◌, ◌&&◌, not, true, [], ◌∷◌, length, IfOk};
-ghost use Rattle.helix_regex.specs.declared.builder.Builder.{Builder as Built};
-ghost use Rattle.helix_regex.specs.Characters.{is_character, set_has};
-ghost use Rattle.helix_regex.specs.Pattern.{Pattern};
-ghost use Rattle.helix_regex.specs.Tokens.{tokens as tokens_of};
-ghost use Rattle.helix_regex.specs.Faults.{bad_counts};
-ghost use Rattle.helix_regex.specs.Meaning.{in_sequence, are_separate, AreRangesOf, MeansRegex};
-ghost use Rattle.helix_base.specs.Ranges.{is_listed};
-ghost use Rattle.helix_regex.specs.Building.{choice, sequences, class_has, Steps, PushesSet, Pushes, Gained, Opens, Ends, IsBuilt};
+ghost use Rattle.std.specs.Prelude.{◌≡◌, ◌++◌, [], ◌∷◌, length, IfOk};
+ghost use Rattle.helix_regex.specs.Meaning.{in_sequence};
+ghost use Rattle.helix_regex.specs.Building.{choice, Steps, Pushes, Opens, Ends};
 ghost use Rattle.helix_regex.specs.declared.token.Token.TheVariants.{Close, Repeat};
-ghost use Rattle.helix_base.specs.Alphabet.{is_in_range};
 
 use crate::expr::{Expr, Exprs};
-use crate::joined::separated;
-use crate::phases::{has_caret, has_dollar};
-use crate::ranges::Ranges;
-use crate::regex::Regex;
-use crate::sets::{push_clipped, push_gaps, push_one, push_set};
-use crate::token::Token;
 use helix_base::Memory;
 use sqlite_items::{Boxed, Items};
 use std::alloc::Global;
@@ -80,7 +67,7 @@ fn only(exprs: Exprs) -> Expr
 }
 
 /// The alternatives of a level that ends.
-fn alternatives(done: Exprs, pieces: Exprs) -> Result<Expr, Memory>
+pub fn alternatives(done: Exprs, pieces: Exprs) -> Result<Expr, Memory>
     ensures { IfOk result (λ expr. expr ≡ choice (done ++ in_sequence pieces ∷ [])) }
 {
     let mut done = done;
@@ -89,7 +76,8 @@ fn alternatives(done: Exprs, pieces: Exprs) -> Result<Expr, Memory>
 }
 
 impl Builder {
-    fn new(alloc: Global) -> Builder
+    /// Nothing.
+    pub fn new(alloc: Global) -> Builder
         ensures outer { result.outer ≡ [] }
         ensures done { result.done ≡ [] }
         ensures pieces { result.pieces ≡ [] }
@@ -104,7 +92,7 @@ impl Builder {
     }
 }
 
-fn push_piece(builder: Builder, piece: Expr) -> Result<Builder, Memory>
+pub fn push_piece(builder: Builder, piece: Expr) -> Result<Builder, Memory>
     ensures { IfOk result (Pushes piece builder) }
 {
     let mut builder = builder;
@@ -112,52 +100,8 @@ fn push_piece(builder: Builder, piece: Expr) -> Result<Builder, Memory>
     Ok(builder)
 }
 
-fn push_chars(alloc: Global, builder: Builder, raw: Vec<(u32, u32)>) -> Result<Builder, Memory>
-    ensures { IfOk result (PushesSet (λ c. is_listed raw.items c) builder) }
-{
-    let ranges = separated(alloc, raw)?;
-    push_piece(builder, Expr::Chars(ranges))
-}
-
-/// Puts a class in, once its items are read.
-fn end_class(alloc: Global, builder: Builder) -> Result<Builder, Memory>
-    ensures { IfOk result (PushesSet (class_has builder.excluded builder.raw.items) builder) }
-{
-    let Builder {
-        outer,
-        done,
-        pieces,
-        raw,
-        excluded,
-    } = builder;
-    let listed = separated(alloc, raw)?;
-    let ranges = if excluded {
-        outside(alloc, listed)?
-    } else {
-        listed
-    };
-    let builder = Builder {
-        outer,
-        done,
-        pieces,
-        raw: Vec::new(alloc),
-        excluded,
-    };
-    push_piece(builder, Expr::Chars(ranges))
-}
-
-/// The separate ranges of all other characters.
-fn outside(alloc: Global, listed: Ranges) -> Result<Ranges, Memory>
-    requires { are_separate listed ≡ true }
-    ensures { IfOk result (AreRangesOf (λ c. is_character c && not (is_listed listed c))) }
-{
-    let mut raw = Vec::new(alloc);
-    push_gaps(&mut raw, listed.as_slice())?;
-    separated(alloc, raw)
-}
-
 /// Begins a group, around which what is built so far stands.
-fn open_group(alloc: Global, builder: Builder) -> Result<Builder, Memory>
+pub fn open_group(alloc: Global, builder: Builder) -> Result<Builder, Memory>
     ensures { IfOk result (Opens builder) }
 {
     let Builder {
@@ -178,7 +122,7 @@ fn open_group(alloc: Global, builder: Builder) -> Result<Builder, Memory>
 }
 
 /// Puts a group in as one piece of what stands around it.
-fn close_group(builder: Builder) -> Result<Builder, Memory>
+pub fn close_group(builder: Builder) -> Result<Builder, Memory>
     ensures { IfOk result (Steps builder Close) }
 {
     let Builder {
@@ -215,7 +159,7 @@ fn close_group(builder: Builder) -> Result<Builder, Memory>
 }
 
 /// Ends a sequence, behind which a bar stands.
-fn end_sequence(alloc: Global, builder: Builder) -> Result<Builder, Memory>
+pub fn end_sequence(alloc: Global, builder: Builder) -> Result<Builder, Memory>
     ensures { IfOk result (Ends builder) }
 {
     let Builder {
@@ -236,7 +180,7 @@ fn end_sequence(alloc: Global, builder: Builder) -> Result<Builder, Memory>
 }
 
 /// Repeats the last piece.
-fn repeat_last(
+pub fn repeat_last(
     alloc: Global,
     builder: Builder,
     least: u32,
@@ -250,112 +194,4 @@ fn repeat_last(
         builder.pieces.push(piece)?;
     }
     Ok(builder)
-}
-
-/// A character of the class that is read.
-fn push_item(builder: Builder, code: u32) -> Result<Builder, Memory>
-    ensures { IfOk result (Gained (λ c. c == code) builder) }
-{
-    let mut builder = builder;
-    push_one(&mut builder.raw, code)?;
-    Ok(builder)
-}
-
-fn push_class_range(builder: Builder, first: u32, last: u32) -> Result<Builder, Memory>
-    ensures { IfOk result (Gained (λ c. is_character c && is_in_range c (first, last)) builder) }
-{
-    let mut builder = builder;
-    push_clipped(&mut builder.raw, first, last)?;
-    Ok(builder)
-}
-
-fn push_class_set(builder: Builder, letter: u32) -> Result<Builder, Memory>
-    ensures { IfOk result (Gained (set_has letter) builder) }
-{
-    let mut builder = builder;
-    push_set(&mut builder.raw, letter)?;
-    Ok(builder)
-}
-
-fn push_literal(alloc: Global, builder: Builder, code: u32) -> Result<Builder, Memory>
-    ensures { IfOk result (PushesSet (λ c. c == code) builder) }
-{
-    let mut raw = Vec::new(alloc);
-    push_one(&mut raw, code)?;
-    push_chars(alloc, builder, raw)
-}
-
-fn push_dot(alloc: Global, builder: Builder) -> Result<Builder, Memory>
-    ensures { IfOk result (PushesSet (λ c. is_character c) builder) }
-{
-    let mut raw = Vec::new(alloc);
-    push_gaps(&mut raw, &[])?;
-    push_chars(alloc, builder, raw)
-}
-
-fn push_named(alloc: Global, builder: Builder, letter: u32) -> Result<Builder, Memory>
-    ensures { IfOk result (PushesSet (set_has letter) builder) }
-{
-    let mut raw = Vec::new(alloc);
-    push_set(&mut raw, letter)?;
-    push_chars(alloc, builder, raw)
-}
-
-/// What is built behind one more token.
-fn step(alloc: Global, builder: Builder, token: Token) -> Result<Builder, Memory>
-    ensures { IfOk result (Steps builder token) }
-{
-    match token {
-        Token::Bar(_) => end_sequence(alloc, builder),
-        Token::Caret(_) | Token::Dollar(_) => Ok(builder),
-        Token::Open => open_group(alloc, builder),
-        Token::Close => close_group(builder),
-        Token::Literal(code) => push_literal(alloc, builder, code),
-        Token::Dot => push_dot(alloc, builder),
-        Token::Set(letter) => push_named(alloc, builder, letter),
-        Token::ClassStart => Ok(Builder {
-            raw: Vec::new(alloc),
-            excluded: false,
-            ..builder
-        }),
-        Token::Exclude => Ok(Builder {
-            excluded: true,
-            ..builder
-        }),
-        Token::Item(code) => push_item(builder, code),
-        Token::Range(first, last, _) => push_class_range(builder, first, last),
-        Token::SetItem(letter) => push_class_set(builder, letter),
-        Token::ClassEnd => end_class(alloc, builder),
-        Token::Repeat(least, most, _) => repeat_last(alloc, builder, least, most),
-    }
-}
-
-/// What is built behind tokens.
-fn run(alloc: Global, tokens: &[Token]) -> Result<Builder, Memory>
-    ensures { IfOk result (IsBuilt tokens.now) }
-{
-    let mut builder = Builder::new(alloc);
-    for token in tokens {
-        builder = step(alloc, builder, *token)?;
-    }
-    Ok(builder)
-}
-
-/// The expression of a pattern, from its tokens. Its counts are at most 1,000.
-pub fn build(alloc: Global, tokens: &[Token]) -> Result<Regex, Memory>
-    ensures { IfOk result (λ regex. (pattern : Pattern) → tokens.now ≡ tokens_of 0 pattern → bad_counts 0 pattern ≡ [] → MeansRegex pattern regex) }
-{
-    let Builder {
-        outer: _,
-        done,
-        pieces,
-        raw: _,
-        excluded: _,
-    } = run(alloc, tokens)?;
-    let expr = alternatives(done, pieces)?;
-    Ok(Regex {
-        expr,
-        at_start: has_caret(tokens),
-        at_end: has_dollar(tokens),
-    })
 }

@@ -1,11 +1,15 @@
-//! Regular expressions as trees, and what they match.
+//! Regular expressions: the expression that a pattern spells, and what it matches.
 //!
 //! An [`Expr`] says which words over code points it matches, as textbooks define it, and a
 //! [`Regex`] may bind a match to the word's start or end. What that means stands in
 //! `specs/Matching.antt`. [`matches`] and [`contains_match`] compute it plainly and slowly, so that
-//! a faster body can be compared with them.
+//! a faster body can be compared with them. [`parse`] gives the one expression that a pattern
+//! spells, or the first rule that it breaks and where: the grammar stands in `specs/Pattern.antt`,
+//! its meaning in `specs/Meaning.antt`, and the rules in `specs/Faults.antt`.
 #![tactic(auto)]
 
+mod assembly;
+mod atoms;
 mod builder;
 mod check;
 mod containing;

@@ -6,7 +6,7 @@ ghost use Rattle.helix_regex.specs.Meaning.{SpellsPattern};
 ghost use Rattle.helix_regex.specs.Faults.{FirstFault};
 ghost use Rattle.helix_regex.specs.Parsing.{IsCause};
 
-use crate::builder::build;
+use crate::assembly::build;
 use crate::check::{text_fault, token_fault};
 use crate::fault::{RegexError, RegexFault};
 use crate::lexer::tokens_of;

@@ -1,5 +1,4 @@
-use Rattle.std.proofs.Common.{◌≡◌, sym, subst, List, []}
-use Rattle.helix_regex.specs.declared.token.Token.{Token}
+use Rattle.std.proofs.Common.{sym, subst, []}
 use Rattle.helix_regex.proofs.Scanned.{character_at}
 use Rattle.helix_regex.proofs.Tokenized.{Lexed, lexed_start, lexed_more, lexed_all}
 use Rattle.helix_regex.proofs.lexer.tokens_of.Goals as goal

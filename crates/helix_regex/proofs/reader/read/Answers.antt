@@ -1,4 +1,4 @@
-use Rattle.std.proofs.Common.{◌∙◌, ap, length, sym, subst}
+use Rattle.std.proofs.Common.{◌∙◌, ap, length}
 use Rattle.helix_regex.specs.Phases.{token_fault}
 use Rattle.helix_regex.proofs.Parsed.{is_first, spells, faultless}
 use Rattle.helix_regex.proofs.reader.read.Goals as goal

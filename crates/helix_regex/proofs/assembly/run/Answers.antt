@@ -1,6 +1,6 @@
 use Rattle.helix_regex.specs.declared.token.Token.TheVariants as token
 use Rattle.helix_regex.proofs.Built.{runs_next, runs_all}
-use Rattle.helix_regex.proofs.builder.run.Goals as goal
+use Rattle.helix_regex.proofs.assembly.run.Goals as goal
 
 pub loop-token-preserved : goal.loop-token-preserved
 loop-token-preserved c = runs_next c.args.tokens.now c.loop-token.token-index (token.Bar 0) c.new-builder.result c.loop-token.builder c.in_ok-builder.builder c.loop-token-test.true

@@ -1,9 +1,9 @@
 use Rattle.std.proofs.Common.{◌∙◌, ap}
 use Rattle.std.specs.List.{list_any}
 use Rattle.helix_regex.specs.Phases.{is_caret, is_dollar}
-use Rattle.helix_regex.proofs.Phased.{caret_phase, dollar_phase}
+use Rattle.helix_regex.proofs.AnchorPhase.{caret_phase, dollar_phase}
 use Rattle.helix_regex.proofs.Built.{means}
-use Rattle.helix_regex.proofs.builder.build.Goals as goal
+use Rattle.helix_regex.proofs.assembly.build.Goals as goal
 
 pub returns : goal.returns
 returns c p e good = means p c.args.tokens.now c.in_ok-done.field-0 c.in_ok-expr.expr c.has_caret.result c.has_dollar.result e good c.in_ok-done.ensures
