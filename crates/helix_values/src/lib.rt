@@ -1,10 +1,12 @@
-//! The values of fields: kinds and their universes, cells and rows with their order, check rules of
-//! codes, the calendar, and offsets of moments.
+//! The values of fields: kinds and their universes, cells and rows with their order and their texts,
+//! check rules of codes, the calendar, ladders of grids, and offsets.
 //!
 //! A number is kept in whole units of 10^-15, a moment in milliseconds from
 //! 0001-01-01T00:00:00.000, a text as its code points. Contracts see both as whole numbers (ℤ).
-//! The definitions stand in `specs/`; the functions here compute them plainly, and later bodies are
-//! compared with them.
+//! The definitions stand in `specs/`: `Universe` and `Order` first, then `Texts` for the one written
+//! form of a value and `Spelling` for all texts that are read as it, `Scale` and `Grids` for the
+//! ladders. Setting a [`Slot`] or a cell of a [`RowBuf`], comparing, and asking a [`Scale`] or a
+//! [`Shift`] take no memory.
 #![tactic(auto)]
 
 mod calendar;
@@ -22,10 +24,10 @@ mod mark;
 mod moments;
 mod multiples;
 mod offset;
-mod offsets;
 mod order;
 mod put;
 mod read;
+mod rising;
 mod row_buf;
 mod scale;
 mod shift;
@@ -46,9 +48,9 @@ pub use kind::{Code, Kind};
 pub use mark::Mark;
 pub use moments::moment_of;
 pub use offset::Offset;
-pub use offsets::{Plain, Shift};
 pub use order::{cmp_cell, cmp_row};
 pub use read::read_cell;
+pub use rising::{Plain, Shift};
 pub use row_buf::RowBuf;
 pub use scale::Scale;
 pub use shift::shifted;

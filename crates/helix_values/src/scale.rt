@@ -37,7 +37,9 @@ pub trait Scale {
         ensures some { IfSome result (IsLeast (IsAtOrAfter (low self.now) (high self.now) (IsOn self.now level) bound)) }
         ensures none { IfNone result ((v : ℤ) → ¬ IsAtOrAfter (low self.now) (high self.now) (IsOn self.now level) bound v) };
 
+    // Every value of the range is on level 0.
     ghost finest: { (s : Self) (v : ℤ) → low s ≤ℤ v → v ≤ℤ high s → IsOn s 0 v };
 
+    // What is on a level is on each lower one.
     ghost coarser: { (s : Self) (level finer : ℕ) (v : ℤ) → finer ≤ level → level < levels s → IsOn s level v → IsOn s finer v };
 }

@@ -31,6 +31,7 @@ pub trait Shift {
         ensures some { IfSome result (IsLeast (IsShiftedTo (low self.now) (high self.now) (applied self.now) target)) }
         ensures none { IfNone result ((v : ℤ) → ¬ IsShiftedTo (low self.now) (high self.now) (applied self.now) target v) };
 
+    // A greater value has no lesser result.
     ghost rises: { (s : Self) (v w : ℤ) → low s ≤ℤ v → v ≤ℤ w → w ≤ℤ high s → applied s v ≤ℤ applied s w };
 }
 

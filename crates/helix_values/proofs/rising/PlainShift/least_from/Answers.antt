@@ -1,7 +1,7 @@
 use Rattle.std.proofs.Common.{arith}
 use Rattle.std.proofs.lemmas.Int.{ints}
 use Rattle.helix_values.proofs.ShiftedSums.{difference_least}
-use Rattle.helix_values.proofs.offsets.PlainShift.least_from.Goals as goal
+use Rattle.helix_values.proofs.rising.PlainShift.least_from.Goals as goal
 
 pub returns-else-target-self-2-clause-some : goal.returns-else-target-self-2-clause-some
 returns-else-target-self-2-clause-some c =
