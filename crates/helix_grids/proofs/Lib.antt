@@ -1,0 +1,5 @@
+pub mod LeastValues
+pub mod OnAndOff
+pub mod Windows
+pub mod Ascending
+pub mod Sieves
