@@ -1,11 +1,11 @@
 -- Ascending lists of numbers, and what a binary search in one says.
-use Rattle.std.proofs.Common.{rules, ◌≡◌, ℕ, ◌+◌, ◌-◌, ◌<◌, ◌≤◌, ℤ, ◌≤ℤ◌, ◌<ℤ◌, false, List, [], ◌∷◌, ◌++◌, length, get_or, Option, Some, None, Less, Equal, Greater, arith, sym, ◌∙◌, subst, ⊎_elim}
+use Rattle.std.proofs.Common.{◌≡◌, ℕ, ◌<◌, ◌≤◌, ℤ, ◌≤ℤ◌, ◌<ℤ◌, false, List, length, get_or, Less, Equal, Greater, arith, sym, ◌∙◌, subst, ⊎_elim}
 use Rattle.std.specs.List.{Contains, AllWithin, slice_get}
 use Rattle.std.specs.Ordering.{int_cmp, is_lt, ordering_index}
 use Rattle.std.specs.List.Sorted.{IsNonDecreasingBy}
 use Rattle.std.proofs.lemmas.Int.{ints}
 use Rattle.std.proofs.lemmas.Bool.{cases_lt}
-use Rattle.std.proofs.lemmas.Cmp.{int_ranked, int_cmp_total, tied_itself}
+use Rattle.std.proofs.lemmas.Cmp.{int_ranked, int_cmp_total}
 use Rattle.std.proofs.lemmas.List.Sorted.{sorted_far, ranks_by, searchable_from_sorted}
 use Rattle.std.proofs.lemmas.List.{get_or_default}
 use Rattle.std.proofs.lemmas.Option.{slice_get-get_or, slice_get_past}

@@ -1,5 +1,5 @@
 -- The least number of a set, and of a set with the same numbers.
-use Rattle.std.proofs.Common.{ℤ, ◌≤ℤ◌, ◌<ℤ◌, Option, Some, None, arith}
+use Rattle.std.proofs.Common.{ℤ, ◌≤ℤ◌, Option, Some, None, arith}
 use Rattle.std.proofs.lemmas.Int.{ints}
 use Rattle.helix_values.specs.Scale.{IsLeast, IsAtOrAfter}
 use Rattle.helix_grids.specs.Tests.{IsLeastOf}
@@ -15,9 +15,3 @@ least_within low high most On bound v range least below = record {
   has = record { from_low = least.has.from_low; to_high = below; on_grid = least.has.on_grid; reached = least.has.reached };
   least = λ w has. least.least w (record { from_low = has.from_low; to_high = omega (arith, ints, has.to_high); on_grid = has.on_grid; reached = has.reached });
 }
-
--- if the least value up to a bound is above a smaller bound, there is none up to that
-pub none_within : (low high most : ℤ) (On : ℤ → Type 0) (bound v : ℤ) → most ≤ℤ high → IsLeast (IsAtOrAfter low high On bound) v → most <ℤ v → (w : ℤ) → ¬ IsAtOrAfter low most On bound w
-none_within low high most On bound v range least above w has =
-    let reached : v ≤ℤ w = least.least w (record { from_low = has.from_low; to_high = omega (arith, ints, has.to_high); on_grid = has.on_grid; reached = has.reached }) in
-    absurd (omega (arith, ints, has.to_high))

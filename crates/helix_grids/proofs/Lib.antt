@@ -3,3 +3,6 @@ pub mod OnAndOff
 pub mod Windows
 pub mod Ascending
 pub mod Sieves
+pub mod Kept
+pub mod Narrowing
+pub mod Meeting

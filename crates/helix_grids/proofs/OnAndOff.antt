@@ -54,15 +54,6 @@ module _ (low most : ℤ) (On Off : ℤ → Type 0) (bound from : ℤ) (searched
       let within : v ≤ℤ most = has.to_high in
       absurd (omega (arith, ints))
 
-  pub none_on : ((v : ℤ) → ¬ IsAtOrAfter low most On from v) → (v : ℤ) → ¬ Sought low most On Off bound v
-  none_on none v has = none v (sought_on v has)
-
-  pub none_past : most <ℤ from → (v : ℤ) → ¬ Sought low most On Off bound v
-  none_past past v has =
-      let reached : from ≤ℤ v = searched.reached v has in
-      let within : v ≤ℤ most = has.to_high in
-      absurd (omega (arith, ints))
-
 -- the number behind one that is below a number of 128 bits has 128 bits
 pub next_fits : (value most : ℤ) → value <ℤ most → FitsSigned w128 value → FitsSigned w128 most → FitsSigned w128 (value +ℤ pos 1)
 next_fits value most below fits most_fits = search (rules, ints)

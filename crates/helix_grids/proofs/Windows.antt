@@ -1,5 +1,6 @@
 -- The values of a window, from a bound on.
-use Rattle.std.proofs.Common.{◌≡◌, ℕ, ℤ, ◌≤ℤ◌, Option, Some, None, arith, subst, sym}
+use Rattle.std.proofs.Common.{◌≡◌, ◌↔◌, ℕ, ◌<◌, ◌≤◌, min, ℤ, ◌≤ℤ◌, Option, Some, None, arith, subst, sym, ⊎_elim}
+use Rattle.std.proofs.lemmas.Bool.{cases_lt}
 use Rattle.std.specs.Option.{IfSome}
 use Rattle.std.specs.Int.{int_max}
 use Rattle.std.proofs.lemmas.Int.{ints, clamps}
@@ -39,3 +40,36 @@ later_max bound least from is = record {
   least_reached = omega (arith, ints, clamps);
   is_least = λ v past_bound past_least. omega (arith, ints, clamps);
 }
+
+-- a window's values from a bound on
+pub exact_least : (IsOn : ℕ → ℤ → Type 0) (window : Window) (bound least : ℤ) → IsLater window.least bound least → (v : ℤ) → IsInWindow IsOn (record window { least = least }) v ↔ (IsInWindow IsOn window v × (bound ≤ℤ v))
+exact_least IsOn window bound least later v = (
+  (λ has. (record { from_least = omega (arith, ints, later.bound_reached, has.from_least); to_most = has.to_most; on_grid = has.on_grid; off_grid = has.off_grid }, omega (arith, ints, later.least_reached, has.from_least))),
+  (λ has. record { from_least = later.is_least v has.0.from_least has.1; to_most = has.0.to_most; on_grid = has.0.on_grid; off_grid = has.0.off_grid }),
+)
+
+-- a window's values off the grid of one more level, where one level stands for that and the window's
+with_both : (IsOn : ℕ → ℤ → Type 0) (window : Window) (level both : ℕ) (v : ℤ) → ((¬ IsOn both v) ↔ (IfSome window.off (λ l. ¬ IsOn l v) × (¬ IsOn level v))) → IsInWindow IsOn (record window { off = Some both }) v ↔ (IsInWindow IsOn window v × (¬ IsOn level v))
+with_both IsOn window level both v outs = (
+  (λ has. let apart = outs.0 has.off_grid in (record { from_least = has.from_least; to_most = has.to_most; on_grid = has.on_grid; off_grid = apart.0 }, apart.1)),
+  (λ has. record { from_least = has.0.from_least; to_most = has.0.to_most; on_grid = has.0.on_grid; off_grid = outs.1 (has.0.off_grid, has.1) }),
+)
+
+pub exact_off_none : (IsOn : ℕ → ℤ → Type 0) (window : Window) (level both : ℕ) (v : ℤ) → window.off ≡ None → both ≡ level → IsInWindow IsOn (record window { off = Some both }) v ↔ (IsInWindow IsOn window v × (¬ IsOn level v))
+exact_off_none IsOn window level both v none is = with_both IsOn window level both v (
+  (λ out. (subst (λ off. IfSome off (λ l. ¬ IsOn l v)) (sym none) tt, λ on. out (subst (λ l. IsOn l v) (sym is) on))),
+  (λ outs on. outs.1 (subst (λ l. IsOn l v) is on)),
+)
+
+-- a grid off which a value lies makes it lie off each coarser one: the finer of two levels stands for both
+pub exact_off_some : (levels : ℕ) (IsOn : ℕ → ℤ → Type 0) → ((level finer : ℕ) (v : ℤ) → finer ≤ level → level < levels → IsOn level v → IsOn finer v) → (window : Window) (off level both : ℕ) (v : ℤ) → window.off ≡ Some off → off < levels → level < levels → both ≡ min off level → IsInWindow IsOn (record window { off = Some both }) v ↔ (IsInWindow IsOn window v × (¬ IsOn level v))
+exact_off_some levels IsOn coarser window off level both v some within inside is = with_both IsOn window level both v (
+  (λ out. (subst (λ other. IfSome other (λ l. ¬ IsOn l v)) (sym some) (λ on. out (coarser off both v (omega arith) within on)), (λ on. out (coarser level both v (omega arith) inside on)))),
+  (λ outs on. ⊎_elim
+      (λ less. let same : both ≡ off = omega arith in let apart : ¬ IsOn off v = subst (λ other. IfSome other (λ l. ¬ IsOn l v)) some outs.0 in apart (subst (λ l. IsOn l v) same on))
+      (λ more. let same : both ≡ level = omega arith in outs.1 (subst (λ l. IsOn l v) same on)) (cases_lt off level)),
+)
+
+-- a window's level is one of the ladder's
+pub off_within : (levels off : ℕ) (window : Window) → window.off ≡ Some off → IfSome window.off (λ level. level < levels) → off < levels
+off_within levels off window some within = subst (λ other. IfSome other (λ level. level < levels)) some within

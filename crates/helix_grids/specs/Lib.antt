@@ -1,3 +1,5 @@
 pub mod Tests
 pub mod Window
 pub mod Sieve
+pub mod Candidates
+pub mod Keep

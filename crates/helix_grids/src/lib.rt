@@ -6,11 +6,16 @@
 //! memory: what it reads is worked out where a test is met.
 #![tactic(auto)]
 
+mod candidates;
+mod grid;
+mod keep;
+mod narrow;
 mod numbers;
 mod search;
 mod sieve;
 mod test;
 mod window;
 
+pub use grid::Grid;
 pub use numbers::Numbers;
 pub use test::GridTest;

@@ -16,6 +16,54 @@ pub struct Window {
     pub off: Option<u32>,
 }
 
+/// The window's values from a bound on, on each ladder.
+pub fn with_least<S: Scale>(window: Window, bound: i128) -> Window
+    ensures exact { (s : S) (v : ℤ) → IsInWindow (S.IsOn s) result v ↔ (IsInWindow (S.IsOn s) window v × (bound ≤ℤ v)) }
+    ensures kept { (s : S) → IsWindowOf (S.low s) (S.high s) (S.levels s) window → IsWindowOf (S.low s) (S.high s) (S.levels s) result }
+{
+    Window {
+        least: window.least.max(bound),
+        ..window
+    }
+}
+
+/// The window's values up to a bound, on each ladder.
+pub fn with_most<S: Scale>(window: Window, bound: i128) -> Window
+    ensures exact { (s : S) (v : ℤ) → IsInWindow (S.IsOn s) result v ↔ (IsInWindow (S.IsOn s) window v × (v ≤ℤ bound)) }
+    ensures kept { (s : S) → IsWindowOf (S.low s) (S.high s) (S.levels s) window → IsWindowOf (S.low s) (S.high s) (S.levels s) result }
+{
+    Window {
+        most: window.most.min(bound),
+        ..window
+    }
+}
+
+/// The window's values on the grid of a level, on each ladder.
+pub fn with_on<S: Scale>(window: Window, level: u32) -> Window
+    ensures exact { (s : S) (v : ℤ) → IsWindowOf (S.low s) (S.high s) (S.levels s) window → level < S.levels s → IsInWindow (S.IsOn s) result v ↔ (IsInWindow (S.IsOn s) window v × S.IsOn s level v) }
+    ensures kept { (s : S) → IsWindowOf (S.low s) (S.high s) (S.levels s) window → level < S.levels s → IsWindowOf (S.low s) (S.high s) (S.levels s) result }
+{
+    Window {
+        on: window.on.max(level),
+        ..window
+    }
+}
+
+/// The window's values off the grid of a level, on each ladder.
+pub fn with_off<S: Scale>(window: Window, level: u32) -> Window
+    ensures exact { (s : S) (v : ℤ) → IsWindowOf (S.low s) (S.high s) (S.levels s) window → level < S.levels s → IsInWindow (S.IsOn s) result v ↔ (IsInWindow (S.IsOn s) window v × (¬ S.IsOn s level v)) }
+    ensures kept { (s : S) → IsWindowOf (S.low s) (S.high s) (S.levels s) window → level < S.levels s → IsWindowOf (S.low s) (S.high s) (S.levels s) result }
+{
+    let off = match window.off {
+        Some(off) => off.min(level),
+        None => level,
+    };
+    Window {
+        off: Some(off),
+        ..window
+    }
+}
+
 /// Whether a value lies in a window.
 pub fn is_in_window<S: Scale>(scale: &S, window: Window, value: i128) -> bool
     requires { IsWindowOf (S.low scale.now) (S.high scale.now) (S.levels scale.now) window }

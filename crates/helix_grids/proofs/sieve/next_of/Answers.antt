@@ -1,4 +1,4 @@
-use Rattle.std.proofs.Common.{rules, ℤ, ◌-◌, pos, get_or, length-set, FitsSigned, to_z-of_z, arith}
+use Rattle.std.proofs.Common.{rules, ◌-◌, pos, get_or, length-set, FitsSigned, to_z-of_z, arith}
 use Rattle.std.specs.Int.{w128}
 use Rattle.helix_grids.proofs.Sieves.{next_above, one_more}
 use Rattle.helix_grids.proofs.sieve.next_of.Goals as goal

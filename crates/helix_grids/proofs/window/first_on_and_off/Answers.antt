@@ -1,4 +1,4 @@
-use Rattle.std.proofs.Common.{rules, ℤ, ◌≤ℤ◌, ◌<ℤ◌, pos, ◌+ℤ◌, refl, FitsSigned, to_z-of_z, arith}
+use Rattle.std.proofs.Common.{rules, ◌≤ℤ◌, ◌<ℤ◌, pos, ◌+ℤ◌, refl, FitsSigned, to_z-of_z, arith}
 use Rattle.std.specs.Int.{w128}
 use Rattle.std.proofs.lemmas.Int.{ints}
 use Rattle.std.proofs.lemmas.Bool.{false≢true}
