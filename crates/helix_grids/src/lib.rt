@@ -19,3 +19,6 @@ mod window;
 pub use grid::Grid;
 pub use numbers::Numbers;
 pub use test::GridTest;
+
+#[cfg(test)]
+mod tests;
