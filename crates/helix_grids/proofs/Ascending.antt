@@ -1,5 +1,6 @@
 -- Ascending lists of numbers, and what a binary search in one says.
-use Rattle.std.proofs.Common.{◌≡◌, ℕ, ◌<◌, ◌≤◌, ℤ, ◌≤ℤ◌, ◌<ℤ◌, false, List, length, get_or, Less, Equal, Greater, arith, sym, ◌∙◌, subst, ⊎_elim}
+use Rattle.std.proofs.Common.{◌≡◌, ℕ, ◌<◌, ◌≤◌, ℤ, ◌≤ℤ◌, ◌<ℤ◌, false, List, length, get_or, Less, Equal}
+use Rattle.std.proofs.Common.{Greater, arith, sym, ◌∙◌, subst, ⊎_elim}
 use Rattle.std.specs.List.{Contains, AllWithin, slice_get}
 use Rattle.std.specs.Ordering.{int_cmp, is_lt, ordering_index}
 use Rattle.std.specs.List.Sorted.{IsNonDecreasingBy}
@@ -29,7 +30,8 @@ pub equal : (x y : ℤ) → int_cmp x y ≡ Equal → x ≡ y
 equal x y test = let ranks = int_ranked x y Equal (sym test) in ranks
 
 -- no number of an ascending list is below one before it
-pub in_order : (xs : List ℤ) → IsAscending xs → (i j : ℕ) (d : ℤ) → i ≤ j → j < length xs → get_or xs i d ≤ℤ get_or xs j d
+pub in_order : (xs : List ℤ) → IsAscending xs → (i j : ℕ) (d : ℤ) → i ≤ j → j < length xs →
+    get_or xs i d ≤ℤ get_or xs j d
 in_order xs ascending i j d before within = not_below _ _ (sorted_far (λ x y. is_lt (int_cmp x y)) (ranks_by int_cmp_total (λ x. x)) xs ascending i j d before within)
 
 module _ (xs : List ℤ) (bound : ℤ) (place : ℕ) (lower : AllWithin (λ y. int_cmp y bound ≡ Less) xs 0 place) (higher : AllWithin (λ y. int_cmp y bound ≡ Greater) xs place (length xs)) where
@@ -49,7 +51,8 @@ module _ (xs : List ℤ) (bound : ℤ) (place : ℕ) (lower : AllWithin (λ y. i
   none_from past w ((k, within, is), reached) = let behind : place ≤ k = stands_behind w k is reached in absurd (omega arith)
 
   -- each number that isn't below the bound is at least the one at the place
-  least_is_first : IsAscending xs → place < length xs → (w : ℤ) → Contains xs w × (bound ≤ℤ w) → get_or xs place bound ≤ℤ w
+  least_is_first : IsAscending xs → place < length xs → (w : ℤ) → Contains xs w × (bound ≤ℤ w) →
+      get_or xs place bound ≤ℤ w
   least_is_first ascending within w ((k, inside, is), reached) =
       subst (λ z. get_or xs place bound ≤ℤ z) (get_or_default xs k bound w inside ∙ is)
       (in_order xs ascending place k bound (stands_behind w k is reached) inside)

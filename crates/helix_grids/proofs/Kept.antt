@@ -1,5 +1,6 @@
 -- A list that keeps the values of another one that meet a condition, one value after the other.
-use Rattle.std.proofs.Common.{◌≡◌, ℕ, ◌+◌, ◌-◌, ◌<◌, ℤ, ◌≤ℤ◌, false, List, [], ◌∷◌, ◌++◌, length, get_or, take, arith, sym, subst, ⊎_elim}
+use Rattle.std.proofs.Common.{◌≡◌, ℕ, ◌+◌, ◌-◌, ◌<◌, ℤ, ◌≤ℤ◌, false, List, [], ◌∷◌, ◌++◌, length, get_or}
+use Rattle.std.proofs.Common.{take, arith, sym, subst, ⊎_elim}
 use Rattle.std.specs.List.{Contains}
 use Rattle.std.specs.Ordering.{int_cmp, is_lt}
 use Rattle.std.proofs.lemmas.Int.{ints}
@@ -15,7 +16,8 @@ test_up_to : (x y : ℤ) → x ≤ℤ y → is_lt (int_cmp y x) ≡ false
 test_up_to x y order = grind (arith, ints)
 
 -- an ascending list goes on with a number that none of its numbers is above
-ascending_push : (xs : List ℤ) (y : ℤ) → IsAscending xs → ((x : ℤ) → Contains xs x → x ≤ℤ y) → IsAscending (xs ++ y ∷ [])
+ascending_push : (xs : List ℤ) (y : ℤ) → IsAscending xs → ((x : ℤ) → Contains xs x → x ≤ℤ y) →
+    IsAscending (xs ++ y ∷ [])
 ascending_push xs y ascending most =
     IsSortedBy-push (λ a b. is_lt (int_cmp a b)) xs y ascending
     (λ d some. test_up_to _ _ (most _ (Contains-get_or xs (length xs - 1) d (omega arith))))

@@ -12,17 +12,23 @@ use Rattle.helix_grids.specs.Candidates.{AreCandidatesOf, AreInForm, Holds, wind
 
 module _ (low high : ℤ) (levels : ℕ) (IsOn : ℕ → ℤ → Type 0) where
   -- the window of candidates is one of the ladder
-  pub has_window : (all : Candidates) → AreInForm low high levels IsOn all → IsWindowOf low high levels (window_of all)
+  pub has_window : (all : Candidates) → AreInForm low high levels IsOn all →
+      IsWindowOf low high levels (window_of all)
   has_window (Listed list) form = form.window
   has_window (Sifted sieve) form = form.window
 
   -- candidates lie in their window
-  pub lies_within : (all : Candidates) → AreInForm low high levels IsOn all → (v : ℤ) → Holds IsOn all v → IsInWindow IsOn (window_of all) v
+  pub lies_within : (all : Candidates) → AreInForm low high levels IsOn all → (v : ℤ) → Holds IsOn all v →
+      IsInWindow IsOn (window_of all) v
   lies_within (Listed list) form v has = form.within v has
   lies_within (Sifted sieve) form v has = has.0
 
   -- the candidates in a narrower window are those that meet the condition that makes it narrower
-  pub narrowed_by : (Meets : ℤ → Type 0) (all new : Candidates) (window : Window) → AreInForm low high levels IsOn all → ((v : ℤ) → IsInWindow IsOn window v ↔ (IsInWindow IsOn (window_of all) v × Meets v)) → ((v : ℤ) → Holds IsOn new v ↔ (Holds IsOn all v × IsInWindow IsOn window v)) → (v : ℤ) → Holds IsOn new v ↔ (Holds IsOn all v × Meets v)
+  pub narrowed_by : (Meets : ℤ → Type 0) (all new : Candidates) (window : Window) →
+      AreInForm low high levels IsOn all →
+      ((v : ℤ) → IsInWindow IsOn window v ↔ (IsInWindow IsOn (window_of all) v × Meets v)) →
+      ((v : ℤ) → Holds IsOn new v ↔ (Holds IsOn all v × IsInWindow IsOn window v)) → (v : ℤ) →
+      Holds IsOn new v ↔ (Holds IsOn all v × Meets v)
   narrowed_by Meets all new window form narrower exact v = (
     (λ has. let was = (exact v).0 has in (was.0, ((narrower v).0 was.1).1)),
     (λ has. (exact v).1 (has.0, (narrower v).1 (lies_within all form v has.0, has.1))),
@@ -30,7 +36,8 @@ module _ (low high : ℤ) (levels : ℕ) (IsOn : ℕ → ℤ → Type 0) where
 
   module _ (level : ℕ) (tests : List GridTest) (test : GridTest) where
     -- a candidate passes one test more
-    candidate_more : (v : ℤ) → IsCandidate low high IsOn level tests v → Passes IsOn test v → IsCandidate low high IsOn level (tests ++ test ∷ []) v
+    candidate_more : (v : ℤ) → IsCandidate low high IsOn level tests v → Passes IsOn test v →
+        IsCandidate low high IsOn level (tests ++ test ∷ []) v
     candidate_more v candidate passes = record {
       from_low = candidate.from_low;
       to_high = candidate.to_high;
@@ -39,7 +46,8 @@ module _ (low high : ℤ) (levels : ℕ) (IsOn : ℕ → ℤ → Type 0) where
     }
 
     -- what passes one test more passed the tests before
-    candidate_before : (v : ℤ) → IsCandidate low high IsOn level (tests ++ test ∷ []) v → IsCandidate low high IsOn level tests v × Passes IsOn test v
+    candidate_before : (v : ℤ) → IsCandidate low high IsOn level (tests ++ test ∷ []) v →
+        IsCandidate low high IsOn level tests v × Passes IsOn test v
     candidate_before v candidate = (
       record {
         from_low = candidate.from_low;
@@ -50,7 +58,9 @@ module _ (low high : ℤ) (levels : ℕ) (IsOn : ℕ → ℤ → Type 0) where
       All-contains (λ s. Passes IsOn s v) (tests ++ test ∷ []) test candidate.passes (Contains-push tests test),
     )
 
-    pub met : (all new : Candidates) → AreCandidatesOf low high levels IsOn level tests all → AreInForm low high levels IsOn new → ((v : ℤ) → Holds IsOn new v ↔ (Holds IsOn all v × Passes IsOn test v)) → AreCandidatesOf low high levels IsOn level (tests ++ test ∷ []) new
+    pub met : (all new : Candidates) → AreCandidatesOf low high levels IsOn level tests all →
+        AreInForm low high levels IsOn new → ((v : ℤ) → Holds IsOn new v ↔ (Holds IsOn all v × Passes IsOn test v)) →
+        AreCandidatesOf low high levels IsOn level (tests ++ test ∷ []) new
     met all new were form exact = record {
       in_form = form;
       exact = λ v. (

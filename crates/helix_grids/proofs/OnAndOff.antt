@@ -25,18 +25,21 @@ module _ (low most : ℤ) (On Off : ℤ → Type 0) (bound from : ℤ) (searched
   sought_on v has = record { from_low = has.from_low; to_high = has.to_high; on_grid = has.on_grid.0; reached = searched.reached v has }
 
   -- what is sought lies behind a least value on the first grid that is on the second one too
-  sought_behind : (value v : ℤ) → IsLeast (IsAtOrAfter low most On from) value → Off value → Sought low most On Off bound v → value <ℤ v
+  sought_behind : (value v : ℤ) → IsLeast (IsAtOrAfter low most On from) value → Off value →
+      Sought low most On Off bound v → value <ℤ v
   sought_behind value v least off has = beyond value v Off off has.on_grid.1 (least.least v (sought_on v has))
 
   -- the search goes on behind such a value
-  pub searched_behind : (value : ℤ) → IsLeast (IsAtOrAfter low most On from) value → Off value → HasSearched low most On Off bound (value +ℤ pos 1)
+  pub searched_behind : (value : ℤ) → IsLeast (IsAtOrAfter low most On from) value → Off value →
+      HasSearched low most On Off bound (value +ℤ pos 1)
   searched_behind value least off = record {
     begun = omega (arith, ints, searched.begun, least.has.reached);
     reached = λ v has. omega (arith, ints, sought_behind value v least off has);
   }
 
   -- a least value on the first grid that isn't on the second one is the least that is sought
-  pub found : (value : ℤ) → IsLeast (IsAtOrAfter low most On from) value → ¬ Off value → IsLeast (Sought low most On Off bound) value
+  pub found : (value : ℤ) → IsLeast (IsAtOrAfter low most On from) value → ¬ Off value →
+      IsLeast (Sought low most On Off bound) value
   found value least apart = record {
     has = record {
       from_low = least.has.from_low;
@@ -48,14 +51,16 @@ module _ (low most : ℤ) (On Off : ℤ → Type 0) (bound from : ℤ) (searched
   }
 
   -- nothing is sought behind the last value of the range
-  pub none_behind : (value : ℤ) → most ≤ℤ value → IsLeast (IsAtOrAfter low most On from) value → Off value → (v : ℤ) → ¬ Sought low most On Off bound v
+  pub none_behind : (value : ℤ) → most ≤ℤ value → IsLeast (IsAtOrAfter low most On from) value → Off value → (v : ℤ) →
+      ¬ Sought low most On Off bound v
   none_behind value last least off v has =
       let behind : value <ℤ v = sought_behind value v least off has in
       let within : v ≤ℤ most = has.to_high in
       absurd (omega (arith, ints))
 
 -- the number behind one that is below a number of 128 bits has 128 bits
-pub next_fits : (value most : ℤ) → value <ℤ most → FitsSigned w128 value → FitsSigned w128 most → FitsSigned w128 (value +ℤ pos 1)
+pub next_fits : (value most : ℤ) → value <ℤ most → FitsSigned w128 value → FitsSigned w128 most →
+    FitsSigned w128 (value +ℤ pos 1)
 next_fits value most below fits most_fits = search (rules, ints)
 
 -- how far a number is below another
@@ -63,5 +68,6 @@ abbrev pub distance : ℤ → ℤ → ℕ
 distance a b = (up b + down a) - (up a + down b)
 
 -- the search comes nearer to the end of the range
-pub comes_nearer : (low most : ℤ) (On : ℤ → Type 0) (from value : ℤ) → IsLeast (IsAtOrAfter low most On from) value → value <ℤ most → distance (value +ℤ pos 1) (most +ℤ pos 1) < distance from (most +ℤ pos 1)
+pub comes_nearer : (low most : ℤ) (On : ℤ → Type 0) (from value : ℤ) → IsLeast (IsAtOrAfter low most On from) value →
+    value <ℤ most → distance (value +ℤ pos 1) (most +ℤ pos 1) < distance from (most +ℤ pos 1)
 comes_nearer low most On from value least below = let reached : from ≤ℤ value = least.has.reached in omega (arith, ints)
