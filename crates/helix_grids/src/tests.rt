@@ -208,3 +208,16 @@ fn a_run_of_exclusions_is_skipped(rt: HostRuntime) -> Result<(), Fail> {
     assert_eq!(rt; apart.at_or_after(10_002), None);
     Ok(())
 }
+
+#[test]
+fn copies_have_the_same_numbers(rt: HostRuntime) -> Result<(), Fail> {
+    let alloc = rt.alloc();
+    let list = numbers(alloc, &[3, -1, 3])?;
+    let copy = list.copy(alloc)?;
+    assert_eq!(rt; copy.as_slice(), [3, -1, 3].as_slice());
+    let test = GridTest::OneOf(copy).copy(alloc)?;
+    let kept =
+        matches!(&test, GridTest::OneOf(members) if members.as_slice() == [3, -1, 3].as_slice());
+    assert!(rt; kept);
+    Ok(())
+}
