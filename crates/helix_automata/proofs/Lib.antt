@@ -1,6 +1,7 @@
 pub mod Covering
 pub mod Finding
 pub mod Joins
+pub mod OneMore
 pub mod Behind
 pub mod PairRows
 pub mod Products

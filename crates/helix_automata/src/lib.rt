@@ -11,11 +11,13 @@ mod lists;
 mod moving;
 mod pairs;
 mod product;
+mod row;
 mod shape;
 
 pub use arc::Arc;
 pub use dfa::{Dfa, DfaFault};
 pub use lists::{Arcs, Flags, Moves};
+pub use row::Row;
 
 #[cfg(test)]
 mod tests;

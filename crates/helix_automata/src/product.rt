@@ -12,8 +12,8 @@ use crate::arc::Arc;
 use crate::dfa::Dfa;
 use crate::lists::Arcs;
 use crate::pairs::Pairs;
-use crate::shape::character_above;
-use helix_base::{Alphabet, Memory};
+use crate::row::Row;
+use helix_base::Memory;
 use std::alloc::Global;
 
 /// The number of the arc that holds the next character, behind one that holds those before it.
@@ -42,25 +42,23 @@ pub fn pair_arcs(
 {
     let left_arcs = left.arcs(pair.0);
     let right_arcs = right.arcs(pair.1);
-    let mut row = Arcs::new(alloc);
+    let mut row = Row::new(alloc);
     let mut at_left = 0;
     let mut at_right = 0;
-    let mut wanted = Alphabet::Unicode.next_at_or_after(0);
-    while let Some(code) = wanted {
+    while let Some(code) = row.next() {
         at_left = at_or_behind(left_arcs, at_left, code);
         at_right = at_or_behind(right_arcs, at_right, code);
         let first = left_arcs[at_left];
         let second = right_arcs[at_right];
         let last = first.last.min(second.last);
         let to = pairs.number((first.to, second.to))?;
-        row.join(Arc {
+        row.lead(Arc {
             first: code,
             last,
             to,
         })?;
-        wanted = character_above(last);
     }
-    Ok(row)
+    Ok(row.into_arcs())
 }
 
 /// Whether both states of a pair accept.
