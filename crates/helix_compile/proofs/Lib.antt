@@ -1,0 +1,16 @@
+pub mod Laying
+pub mod LayingOut
+pub mod Circles
+pub mod Times
+pub mod Silent
+pub mod Arms
+pub mod WholePatterns
+pub mod Numbered
+pub mod Members
+pub mod Stepping
+pub mod Visiting
+pub mod Closures
+pub mod AlikeUpTo
+pub mod SetArcs
+pub mod OneMoreSet
+pub mod Constructed

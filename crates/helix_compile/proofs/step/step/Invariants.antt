@@ -1,0 +1,6 @@
+use Rattle.std.proofs.Common.{take}
+use Rattle.helix_compile.specs.Subsets.{LeadsTo}
+use Rattle.helix_compile.proofs.step.step.Given as goal
+
+abbrev pub invariant-loop-number : goal.invariant-loop-number
+invariant-loop-number l = LeadsTo l.places (take l.number-index l.set) l.code l.met

@@ -1,0 +1,2 @@
+mod patterns;
+mod places;
