@@ -1,5 +1,5 @@
 -- What the calls of the layout answer, and what that says of the expression at hand.
-use Rattle.std.proofs.Common.{◌≡◌, ℕ, ◌≤◌, ◌<◌, ◌+◌, ◌-◌, zero, suc, ◌⊎◌, inl, inr, ◌↔◌, Option, Some, None, Result, Ok, Err, IfOk, OnOk, List, [], ◌∷◌, ◌++◌, length, take, drop, get_or, slice_get, refl, sym, ap, ◌∙◌, subst, arith, append_assoc}
+use Rattle.std.proofs.Common.{◌≡◌, ℕ, ◌≤◌, ◌<◌, ◌+◌, ◌-◌, suc, ◌⊎◌, Option, Some, None, Result, Ok, Err, IfOk, OnOk, List, [], ◌∷◌, ◌++◌, length, take, drop, get_or, slice_get, sym, ap, ◌∙◌, subst, arith, append_assoc}
 use Rattle.std.proofs.lemmas.List.{take-append-drop, length-append, append-nil}
 use Rattle.std.proofs.Common.{drop-cons}
 use Rattle.std.proofs.Math.ListN.{drop_of_length-le}
@@ -8,8 +8,8 @@ use Rattle.helix_regex.specs.declared.expr.Expr.TheViews.{Seq, Alt, Repeat}
 use Rattle.helix_regex.specs.Matching.{Matches, MatchInOrder, MatchSome, Joined, UpTo, Repeats}
 use Rattle.helix_regex.specs.MatchingLaws.{Matches-Seq, Matches-Alt, Matches-Repeat}
 use Rattle.helix_compile.specs.declared.place.Place.{Place}
-use Rattle.helix_compile.specs.declared.place.Place.TheVariants.{End, Stop, Read, Either}
-use Rattle.helix_compile.specs.Places.{AgreeFrom, Grows, LaysOut}
+use Rattle.helix_compile.specs.declared.place.Place.TheVariants.{Stop, Read, Either}
+use Rattle.helix_compile.specs.Places.{Grows, LaysOut}
 use Rattle.helix_compile.specs.Repeating.{AnyNumber, UpToNumber, RepeatsMore}
 use Rattle.helix_compile.proofs.Laying.{Both, leads_read, leads_nowhere}
 use Rattle.helix_compile.proofs.LayingOut.{grows_none, grows_more, grows_push, pushed_there, lays_nothing, lays_same, lays_both, lays_early, lays_on, lays_either}

@@ -1,14 +1,14 @@
 -- A part that leads back to the fork before it is passed any number of times.
-use Rattle.std.proofs.Common.{◌≡◌, ◌≢◌, ℕ, ◌≤◌, ◌<◌, ◌+◌, zero, suc, ◌⊎◌, inl, inr, ◌↔◌, Option, Some, None, List, [], ◌∷◌, ◌++◌, length, slice_get, get_or, set, refl, sym, ap, ◌∙◌, subst, arith, append_assoc}
-use Rattle.std.proofs.lemmas.List.{append-nil, length-append, length-set, get_or-set_other, get_or-set_same}
+use Rattle.std.proofs.Common.{◌≡◌, ◌≢◌, ℕ, ◌≤◌, ◌<◌, zero, suc, inl, inr, Some, List, [], ◌∷◌, ◌++◌, length, slice_get, set, refl, sym, ap, ◌∙◌, subst, arith, append_assoc}
+use Rattle.std.proofs.lemmas.List.{length-append, length-set, get_or-set_other, get_or-set_same}
 use Rattle.std.proofs.lemmas.Option.{slice_get-get_or}
-use Rattle.helix_regex.specs.Matching.{Joined, UpTo, Repeats}
+use Rattle.helix_regex.specs.Matching.{Joined}
 use Rattle.helix_compile.specs.declared.place.Place.{Place}
 use Rattle.helix_compile.specs.declared.place.Place.TheVariants.{End, Stop, Either}
-use Rattle.helix_compile.specs.Places.{ReadsIn, Reads, LeadsThrough, AgreeFrom, Grows, LaysOut}
-use Rattle.helix_compile.specs.Repeating.{AnyNumber, UpToNumber, RepeatsMore}
-use Rattle.helix_compile.proofs.Laying.{Both, fork_reads, fork_first, fork_second}
-use Rattle.helix_compile.proofs.LayingOut.{grows_push, grows_more, pushed_there}
+use Rattle.helix_compile.specs.Places.{ReadsIn, Reads, LeadsThrough, Grows, LaysOut}
+use Rattle.helix_compile.specs.Repeating.{AnyNumber}
+use Rattle.helix_compile.proofs.Laying.{fork_reads, fork_first, fork_second}
+use Rattle.helix_compile.proofs.LayingOut.{grows_push}
 
 module _ (places : List Place) (fork next first : ℕ) (L : List ℕ → Type 0) (at : slice_get places fork ≡ Some (Either next first)) (part : LeadsThrough places first L fork) where
   Splits : ℕ → List ℕ → Type 0

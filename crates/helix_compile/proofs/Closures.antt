@@ -1,12 +1,12 @@
 -- The places to which forks lead.
-use Rattle.std.proofs.Common.{◌≡◌, ◌⊎◌, ◌↔◌, inl, inr, ℕ, zero, suc, ◌+◌, ◌<◌, ◌≤◌, Option, Some, None, List, [], ◌∷◌, ◌++◌, length, get_or, slice_get, Contains, ap, arith, refl, sym, ◌∙◌, subst}
+use Rattle.std.proofs.Common.{◌≡◌, ◌⊎◌, inl, inr, ℕ, zero, suc, ◌+◌, ◌<◌, ◌≤◌, Option, Some, None, List, [], length, get_or, slice_get, Contains, ap, arith, refl, sym, ◌∙◌, subst}
 use Rattle.std.proofs.lemmas.Bool.{cases_lt}
 use Rattle.std.proofs.lemmas.Option.{slice_get_within, slice_get-get_or}
 use Rattle.std.proofs.lemmas.List.Sorted.{Contains-permutation, IsPermutation-sym}
 use Rattle.std.specs.Prelude.{IsPermutation}
 use Rattle.helix_compile.specs.declared.place.Place.{Place}
 use Rattle.helix_compile.specs.declared.place.Place.TheVariants.{End, Stop, Read, Either}
-use Rattle.helix_compile.specs.Places.{Does, ReadsIn, Reads}
+use Rattle.helix_compile.specs.Places.{Does, ReadsIn}
 use Rattle.helix_compile.specs.Subsets.{ReadsSome, ReadTheSame, HasNoFork}
 use Rattle.helix_compile.specs.Closing.{IsRest, ForksTo, Visits}
 use Rattle.helix_compile.proofs.Members.{same_some, contains_at, at_contains, none_after}

@@ -1,12 +1,9 @@
 -- How places that lead through languages are put together.
-use Rattle.std.proofs.Common.{◌≡◌, ℕ, ◌≤◌, ◌<◌, ◌+◌, zero, suc, ◌⊎◌, inl, inr, Option, Some, None, List, [], ◌∷◌, ◌++◌, length, slice_get, get_or, set, refl, sym, ap, ◌∙◌, subst, arith, append_assoc}
-use Rattle.std.proofs.lemmas.List.{append-nil, length-append, length-set, get_or_append_left, get_or-set_other}
-use Rattle.std.proofs.Math.Seq.{get_or-append_seam}
-use Rattle.std.proofs.lemmas.Option.{slice_get-get_or}
+use Rattle.std.proofs.Common.{◌≡◌, ℕ, ◌≤◌, zero, suc, ◌⊎◌, inl, inr, Some, List, [], ◌∷◌, ◌++◌, slice_get, refl, sym, ap, ◌∙◌, subst, arith, append_assoc}
 use Rattle.helix_regex.specs.Matching.{IsOneOf}
 use Rattle.helix_compile.specs.declared.place.Place.{Place}
-use Rattle.helix_compile.specs.declared.place.Place.TheVariants.{End, Stop, Read, Either}
-use Rattle.helix_compile.specs.Places.{Does, ReadsIn, Reads, LeadsThrough, AgreeFrom, Grows, LaysOut}
+use Rattle.helix_compile.specs.declared.place.Place.TheVariants.{Stop, Read, Either}
+use Rattle.helix_compile.specs.Places.{Does, ReadsIn, Reads, LeadsThrough}
 
 -- the words that are joined from one of each language
 abbrev pub Both : (List ℕ → Type 0) → (List ℕ → Type 0) → List ℕ → Type 0

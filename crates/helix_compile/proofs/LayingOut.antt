@@ -1,13 +1,11 @@
 -- How the places that are added lead on, whatever the others are.
-use Rattle.std.proofs.Common.{◌≡◌, ℕ, ◌≤◌, ◌<◌, ◌+◌, ◌-◌, zero, suc, ◌⊎◌, inl, inr, ◌↔◌, Option, Some, None, List, [], ◌∷◌, ◌++◌, length, slice_get, get_or, set, refl, sym, ap, ◌∙◌, subst, arith, append_assoc}
-use Rattle.std.proofs.lemmas.List.{append-nil, length-append, length-set, get_or_append_left, get_or-set_other, get_or-set_same}
+use Rattle.std.proofs.Common.{◌≡◌, ℕ, ◌<◌, ◌⊎◌, ◌↔◌, Some, List, [], ◌∷◌, ◌++◌, length, slice_get, refl, sym, ap, ◌∙◌, arith}
+use Rattle.std.proofs.lemmas.List.{length-append, get_or_append_left}
 use Rattle.std.proofs.Math.Seq.{get_or-append_seam}
 use Rattle.std.proofs.lemmas.Option.{slice_get-get_or}
-use Rattle.helix_regex.specs.Matching.{Joined, UpTo, Repeats}
 use Rattle.helix_compile.specs.declared.place.Place.{Place}
-use Rattle.helix_compile.specs.declared.place.Place.TheVariants.{End, Stop, Read, Either}
-use Rattle.helix_compile.specs.Places.{ReadsIn, Reads, LeadsThrough, AgreeFrom, Grows, LaysOut}
-use Rattle.helix_compile.specs.Repeating.{AnyNumber, UpToNumber, RepeatsMore}
+use Rattle.helix_compile.specs.declared.place.Place.TheVariants.{End, Either}
+use Rattle.helix_compile.specs.Places.{AgreeFrom, Grows, LaysOut}
 use Rattle.helix_compile.proofs.Laying.{Both, leads_nothing, leads_both, leads_same, leads_either}
 
 -- how lists of places grow

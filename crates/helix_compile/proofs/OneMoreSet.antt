@@ -6,7 +6,6 @@ use Rattle.std.proofs.lemmas.List.{length-append, get_or_append_left}
 use Rattle.std.proofs.Math.Seq.{get_or-append_seam}
 use Rattle.helix_automata.specs.declared.arc.Arc.{Arc}
 use Rattle.helix_compile.specs.declared.place.Place.{Place}
-use Rattle.helix_compile.specs.declared.place.Place.TheVariants.{End}
 use Rattle.helix_compile.specs.Subsets.{HaveNoFork, KeepTheirNumbers, AreSetArcs}
 use Rattle.helix_compile.proofs.Members.{same_some}
 use Rattle.helix_compile.proofs.SetArcs.{longer}

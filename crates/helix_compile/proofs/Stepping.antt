@@ -1,13 +1,12 @@
 -- Where a character leads from one place.
-use Rattle.std.proofs.Common.{◌≡◌, ◌⊎◌, ◌↔◌, inl, inr, ℕ, zero, suc, ◌+◌, ◌<◌, ◌≤◌, Bool, true, false, Option, Some, None, Result, Ok, Err, OnOk, List, [], ◌∷◌, ◌++◌, take, length, get_or, slice_get, Contains, ap, arith, refl, sym, ◌∙◌, subst}
-use Rattle.std.specs.Prelude.{IsTrue}
+use Rattle.std.proofs.Common.{◌≡◌, ◌⊎◌, ◌↔◌, inl, inr, ℕ, zero, suc, ◌+◌, ◌<◌, ◌≤◌, true, false, Option, Some, None, Result, Ok, Err, OnOk, List, [], ◌∷◌, ◌++◌, take, length, get_or, slice_get, Contains, ap, refl, sym, ◌∙◌, subst}
 use Rattle.helix_base.specs.Ranges.{is_listed}
 use Rattle.helix_compile.specs.declared.place.Place.{Place}
 use Rattle.helix_compile.specs.declared.place.Place.TheVariants.{End, Stop, Read, Either}
 use Rattle.helix_compile.specs.Places.{Does, ReadsIn, Reads}
 use Rattle.helix_compile.specs.Subsets.{ReadsSome, ReadTheSame, LeadsTo, HasNoFork, IsReadAlike}
 use Rattle.std.proofs.lemmas.List.{take_all}
-use Rattle.helix_compile.proofs.Members.{reads_added, reads_next, reads_none, none_after}
+use Rattle.helix_compile.proofs.Members.{reads_added, reads_next, reads_none}
 
 abbrev IsNoFork : Option Place → Type 0
 IsNoFork at = (one other : ℕ) → at ≡ Some (Either one other) → ⊥

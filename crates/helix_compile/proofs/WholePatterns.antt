@@ -1,13 +1,12 @@
 -- What is read from the first place of a pattern to its end.
-use Rattle.std.proofs.Common.{◌≡◌, ℕ, ◌≤◌, ◌<◌, ◌+◌, zero, suc, ◌⊎◌, inl, inr, ◌↔◌, Bool, true, false, not, ◌&&◌, ◌||◌, nat_le, Some, Result, IfOk, OnOk, List, [], ◌∷◌, ◌++◌, All, length, slice_get, get_or, refl, sym, ap, ◌∙◌, subst, arith, append_assoc, append-nil}
-use Rattle.std.specs.Prelude.{IsTrue}
+use Rattle.std.proofs.Common.{◌≡◌, ℕ, ◌≤◌, ◌+◌, zero, suc, ◌⊎◌, inl, inr, ◌↔◌, Bool, true, false, ◌&&◌, ◌||◌, nat_le, Some, Result, IfOk, OnOk, List, [], ◌∷◌, ◌++◌, All, length, slice_get, refl, sym, ap, ◌∙◌, subst, arith, append-nil}
 use Rattle.std.proofs.lemmas.Bool.{leb-true, le-leb}
 use Rattle.std.proofs.lemmas.List.{get_or_append_left, length-append, get_or-append-add}
 use Rattle.std.proofs.lemmas.List.Elements.{All-head, All-tail}
 use Rattle.helix_automata.specs.Shape.{IsCharacter}
-use Rattle.helix_regex.specs.declared.expr.Expr.{Expr, Chars}
+use Rattle.helix_regex.specs.declared.expr.Expr.{Chars}
 use Rattle.helix_regex.specs.declared.regex.Regex.{Regex}
-use Rattle.helix_regex.specs.Matching.{Matches, ContainsMatch, IsOneOf, InRanges, Joined}
+use Rattle.helix_regex.specs.Matching.{Matches, IsOneOf, InRanges}
 use Rattle.helix_compile.specs.declared.place.Place.{Place}
 use Rattle.helix_compile.specs.declared.place.Place.TheVariants.{End}
 use Rattle.helix_compile.specs.Places.{Does, ReadsIn, Reads, LeadsThrough, Grows, LaysOut}

@@ -1,5 +1,5 @@
 -- Sets of places, as the states of an automaton. Only the crate's private clauses cite it.
-use Rattle.std.specs.Prelude.{◌≡◌, ◌↔◌, ℕ, ◌≤◌, Some, List, ◌∷◌, Contains, length, slice_get}
+use Rattle.std.specs.Prelude.{◌≡◌, ◌↔◌, ℕ, Some, List, ◌∷◌, Contains, length, slice_get}
 use Rattle.helix_base.specs.Ranges.{is_listed}
 use Rattle.helix_automata.specs.declared.arc.Arc.{Arc}
 use Rattle.helix_automata.specs.Automaton.{target}

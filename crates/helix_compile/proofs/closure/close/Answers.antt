@@ -1,5 +1,5 @@
 use Rattle.std.proofs.Common.{sym}
-use Rattle.helix_compile.proofs.Closures.{closing_start, closing_more, closed_same, closed_no_fork}
+use Rattle.helix_compile.proofs.Closures.{closing_more, closed_same, closed_no_fork}
 use Rattle.helix_compile.proofs.closure.close.Goals as goal
 
 pub returns-in_default-clause-same : goal.returns-in_default-clause-same

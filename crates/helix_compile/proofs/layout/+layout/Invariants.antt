@@ -1,4 +1,4 @@
-use Rattle.std.proofs.Common.{ℕ, ◌≡◌, ◌++◌, ◌+◌, ◌*◌, List, length}
+use Rattle.std.proofs.Common.{◌≡◌, ◌++◌, ◌+◌, ◌*◌, List, length}
 use Rattle.helix_regex.specs.declared.expr.Expr.{Expr}
 use Rattle.helix_regex.specs.Matching.{Matches, MatchInOrder, MatchSome, Joined}
 use Rattle.helix_compile.specs.Places.{Grows, LaysOut}

@@ -1,6 +1,6 @@
 use Rattle.std.proofs.Common.{drop, arith}
 use Rattle.std.proofs.Math.ListN.{drop_of_length-le}
-use Rattle.helix_compile.proofs.Silent.{Silent, silent_all, quiet_in_order, quiet_some, seq_quiet, alt_quiet, repeat_quiet}
+use Rattle.helix_compile.proofs.Silent.{silent_all, quiet_in_order, quiet_some, seq_quiet, alt_quiet, repeat_quiet}
 use Rattle.helix_compile.proofs.silence.+silence.Goals as goal
 
 pub read_nothing-returns-clause-in_order : goal.read_nothing-returns-clause-in_order

@@ -1,5 +1,4 @@
-use Rattle.std.proofs.Common.{◌≡◌, ℕ, List, [], ◌*◌, ◌+◌, take, drop}
-use Rattle.helix_regex.specs.Matching.{MatchInOrder, MatchSome}
+use Rattle.std.proofs.Common.{◌*◌, ◌+◌, drop}
 use Rattle.helix_compile.proofs.Silent.{Silent}
 use Rattle.helix_compile.proofs.silence.+silence.Given as goal
 
