@@ -182,6 +182,42 @@ fn automata_and_the_plain_matcher_agree(rt: HostRuntime) -> Result<(), Fail> {
     Ok(())
 }
 
+/// The automaton of the words that the first pattern matches and the second doesn't.
+fn without(alloc: Global, pattern: &str, other: &str) -> Result<Option<Dfa>, Memory> {
+    let (Some(kept), Some(left_out)) = (regex_of(alloc, pattern)?, regex_of(alloc, other)?) else {
+        return Ok(None);
+    };
+    let kept = dfa_of(alloc, &kept, false)?;
+    let left_out = dfa_of(alloc, &left_out, false)?;
+    Ok(Some(kept.product(alloc, &left_out.complement(alloc)?)?))
+}
+
+#[test]
+fn products_and_complements_of_patterns_accept(rt: HostRuntime) -> Result<(), Fail> {
+    let dfa = without(rt.alloc(), "[a-c]*", ".{2}|(ab)*|[^a]*")?;
+    assert!(rt; dfa.is_some());
+    if let Some(dfa) = dfa {
+        let cases = [
+            ("", false),
+            ("a", true),
+            ("b", false),
+            ("ab", false),
+            ("ba", false),
+            ("aba", true),
+            ("abab", false),
+            ("bcb", false),
+            ("bca", true),
+            ("bad", false),
+            ("a\u{a0}a", false),
+        ];
+        for (string, want) in cases {
+            let word = Text::of(rt.alloc(), string)?;
+            assert_eq!(rt; answer(&dfa, word.codes()), Some(want), "{string}");
+        }
+    }
+    Ok(())
+}
+
 /// How many states the automaton of a pattern has.
 fn states(alloc: Global, pattern: &str) -> Result<u32, Memory> {
     match regex_of(alloc, pattern)? {

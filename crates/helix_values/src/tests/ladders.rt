@@ -68,6 +68,52 @@ fn numbers_are_on_powers_of_ten(rt: HostRuntime) {
     }
 }
 
+/// The steps of the levels, from the finest.
+const STEPS: [i128; 16] = [
+    1,
+    10,
+    100,
+    1_000,
+    10_000,
+    100_000,
+    1_000_000,
+    10_000_000,
+    100_000_000,
+    1_000_000_000,
+    10_000_000_000,
+    100_000_000_000,
+    1_000_000_000_000,
+    10_000_000_000_000,
+    100_000_000_000_000,
+    1_000_000_000_000_000,
+];
+
+#[test]
+fn each_level_of_numbers_has_its_step(rt: HostRuntime) {
+    let ladder = Decades;
+    let mut level = 0;
+    for step in STEPS {
+        assert!(rt; level < 16 && step <= ONE);
+        assert_eq!(rt; ceil(&rt, &ladder, level, 1), Some(step), "{level}");
+        assert_eq!(rt; ceil(&rt, &ladder, level, step), Some(step), "{level}");
+        assert_eq!(rt; ceil(&rt, &ladder, level, 0), Some(0), "{level}");
+        assert_eq!(rt;
+            ceil(&rt, &ladder, level, GREATEST),
+            Some(GREATEST),
+            "{level}"
+        );
+        assert_eq!(rt; ceil(&rt, &ladder, level, GREATEST + 1), None, "{level}");
+        assert_eq!(rt;
+            ceil(&rt, &ladder, level, -GREATEST - 1),
+            Some(-GREATEST),
+            "{level}"
+        );
+        assert!(rt; on(&rt, &ladder, level, step), "{level}");
+        assert_eq!(rt; on(&rt, &ladder, level, 1), level == 0, "{level}");
+        level += 1;
+    }
+}
+
 const DAY: i128 = 86_400_000;
 
 const LAST: i128 = 315_537_897_599_999;

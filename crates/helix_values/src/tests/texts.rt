@@ -207,6 +207,8 @@ fn texts_are_values(rt: HostRuntime) -> Result<(), Fail> {
         (Kind::Text(Alphabet::Latin), "é"),
         (Kind::Text(Alphabet::Unicode), "𝄞"),
         (Kind::Code(Code::Isin), "US0378331005"),
+        (Kind::Code(Code::Sedol), "B0YBKJ7"),
+        (Kind::Code(Code::Cusip), "037833100"),
     ];
     for (kind, spelling) in cases {
         let text = Text::of(rt.alloc(), spelling)?;
@@ -267,6 +269,8 @@ fn other_texts_are_refused(rt: HostRuntime) -> Result<(), Fail> {
         (Kind::DateTime, "2024-01-01Z"),
         (Kind::Text(Alphabet::Basic), "é"),
         (Kind::Code(Code::Isin), "US0378331006"),
+        (Kind::Code(Code::Sedol), "B0YBKJ8"),
+        (Kind::Code(Code::Cusip), "037833101"),
     ];
     for (kind, spelling) in cases {
         let text = Text::of(rt.alloc(), spelling)?;
