@@ -91,7 +91,7 @@ fn texts_are_read_as_their_values(rt: HostRuntime) -> Result<(), Fail> {
 
 #[test]
 fn texts_break_their_first_rule_at_its_place(rt: HostRuntime) -> Result<(), Fail> {
-    let cases: [(&[u8], &str); 32] = [
+    let cases: [(&[u8], &str); 33] = [
         // bytes that are no UTF-8: alone, overlong, half of a pair, above U+10FFFF, cut
         (b"\xff", "J2: no UTF-8 at byte 0"),
         (b"[\x80]", "J2: no UTF-8 at byte 1"),
@@ -103,6 +103,7 @@ fn texts_break_their_first_rule_at_its_place(rt: HostRuntime) -> Result<(), Fail
         (b"] {\"a\":0,\"a\":0} \xff", "J2: no UTF-8 at byte 16"),
         // the grammar is told in bytes, and comes before what the value breaks
         (b"", "J3: no JSON at byte 0"),
+        (b"{\"fields\":[", "J3: no JSON at byte 11"),
         (b"\"\xc3\xa9\" x", "J3: no JSON at byte 5"),
         (b"[\"\xf0\x9f\x98\x80\",]", "J3: no JSON at byte 8"),
         (b"\xef\xbb\xbf1", "J3: no JSON at byte 0"),
@@ -171,6 +172,25 @@ fn texts_break_their_first_rule_at_its_place(rt: HostRuntime) -> Result<(), Fail
         let read = answer(rt.alloc(), bytes)?;
         assert_eq!(rt; read.as_str(), want, "{bytes:?}");
     }
+    Ok(())
+}
+
+/// A text in which every kind of token stands, with a character of two bytes behind the first four.
+const RICH: &[u8] =
+    b" {\"k\xc3\xa9\\u00e9\\ud83d\\ude00\\n\":[1, -2.5e+3,0 ,true,false,null,\"\",{}],\"b\":{\"c\":[]}}";
+
+#[test]
+fn each_cut_of_a_text_wants_more(rt: HostRuntime) -> Result<(), Fail> {
+    for count in 0..RICH.len() {
+        let want = if count == 5 {
+            format!(in rt.alloc(); "J2: no UTF-8 at byte 4")?
+        } else {
+            format!(in rt.alloc(); "J3: no JSON at byte {count}")?
+        };
+        let read = answer(rt.alloc(), &RICH[..count])?;
+        assert_eq!(rt; read.as_str(), want.as_str());
+    }
+    assert!(rt; read(rt.alloc(), RICH).is_ok());
     Ok(())
 }
 
