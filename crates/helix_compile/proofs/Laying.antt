@@ -1,6 +1,6 @@
 -- How places that lead through languages are put together.
 use Rattle.std.proofs.Common.{◌≡◌, ℕ, ◌≤◌, zero, suc, ◌⊎◌, inl, inr, Some, List, [], ◌∷◌, ◌++◌, slice_get, refl, sym, ap, ◌∙◌, subst, arith, append_assoc}
-use Rattle.helix_regex.specs.Matching.{IsOneOf}
+use Rattle.helix_expr.specs.Matching.{IsOneOf}
 use Rattle.helix_compile.specs.declared.place.Place.{Place}
 use Rattle.helix_compile.specs.declared.place.Place.TheVariants.{Stop, Read, Either}
 use Rattle.helix_compile.specs.Places.{Does, ReadsIn, Reads, LeadsThrough}

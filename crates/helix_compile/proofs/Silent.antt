@@ -1,9 +1,9 @@
 -- Languages of the empty word alone.
 use Rattle.std.proofs.Common.{◌≡◌, ℕ, ◌≤◌, zero, suc, inl, inr, Option, Some, None, List, [], ◌∷◌, ◌++◌, refl, sym, ap, ◌∙◌, subst, ◌↔◌, arith}
-use Rattle.helix_regex.specs.declared.expr.Expr.{Expr}
-use Rattle.helix_regex.specs.declared.expr.Expr.TheViews.{Seq, Alt, Repeat}
-use Rattle.helix_regex.specs.Matching.{Matches, MatchInOrder, MatchSome, Joined, UpTo, Repeats}
-use Rattle.helix_regex.specs.MatchingLaws.{Matches-Seq, Matches-Alt, Matches-Repeat}
+use Rattle.helix_expr.specs.declared.expr.Expr.{Expr}
+use Rattle.helix_expr.specs.declared.expr.Expr.TheViews.{Seq, Alt, Repeat}
+use Rattle.helix_expr.specs.Matching.{Matches, MatchInOrder, MatchSome, Joined, UpTo, Repeats}
+use Rattle.helix_expr.specs.MatchingLaws.{Matches-Seq, Matches-Alt, Matches-Repeat}
 
 -- no other word
 abbrev pub Quiet : (List ℕ → Type 0) → Type 0

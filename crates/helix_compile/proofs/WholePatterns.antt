@@ -4,9 +4,9 @@ use Rattle.std.proofs.lemmas.Bool.{leb-true, le-leb}
 use Rattle.std.proofs.lemmas.List.{get_or_append_left, length-append, get_or-append-add}
 use Rattle.std.proofs.lemmas.List.Elements.{All-head, All-tail}
 use Rattle.helix_automata.specs.Shape.{IsCharacter}
-use Rattle.helix_regex.specs.declared.expr.Expr.{Chars}
-use Rattle.helix_regex.specs.declared.regex.Regex.{Regex}
-use Rattle.helix_regex.specs.Matching.{Matches, IsOneOf, InRanges}
+use Rattle.helix_expr.specs.declared.expr.Expr.{Chars}
+use Rattle.helix_expr.specs.declared.regex.Regex.{Regex}
+use Rattle.helix_expr.specs.Matching.{Matches, IsOneOf, InRanges}
 use Rattle.helix_compile.specs.declared.place.Place.{Place}
 use Rattle.helix_compile.specs.declared.place.Place.TheVariants.{End}
 use Rattle.helix_compile.specs.Places.{Does, ReadsIn, Reads, LeadsThrough, Grows, LaysOut}

@@ -1,7 +1,7 @@
 -- The words that the automaton of a pattern accepts.
 use Rattle.std.specs.Prelude.{◌≡◌, ℕ, Bool, true, false, MatchBool, List, [], ◌∷◌, ◌++◌}
-use Rattle.helix_regex.specs.declared.regex.Regex.{Regex}
-use Rattle.helix_regex.specs.Matching.{Matches, ContainsMatch, IsOneOf}
+use Rattle.helix_expr.specs.declared.regex.Regex.{Regex}
+use Rattle.helix_expr.specs.Matching.{Matches, ContainsMatch, IsOneOf}
 use Rattle.helix_compile.specs.Repeating.{AnyNumber}
 
 -- the word matches as a whole or, where that is asked, contains a match with the pattern's anchors

@@ -1,6 +1,6 @@
 -- The words that are read from a place of a pattern on.
 use Rattle.std.specs.Prelude.{◌≡◌, ℕ, zero, suc, ◌<◌, ◌≤◌, ◌⊎◌, Option, Some, None, List, [], ◌∷◌, ◌++◌, length, slice_get}
-use Rattle.helix_regex.specs.Matching.{InRanges}
+use Rattle.helix_expr.specs.Matching.{InRanges}
 use Rattle.helix_compile.specs.declared.place.Place.{Place}
 use Rattle.helix_compile.specs.declared.place.Place.TheVariants.{End, Stop, Read, Either}
 

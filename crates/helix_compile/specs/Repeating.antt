@@ -1,6 +1,6 @@
 -- Words that are joined from words of a language.
 use Rattle.std.specs.Prelude.{ℕ, ◌+◌, ◌≤◌, Option, List}
-use Rattle.helix_regex.specs.Matching.{Joined, UpTo}
+use Rattle.helix_expr.specs.Matching.{Joined, UpTo}
 
 -- from any number of them
 abbrev pub AnyNumber : (List ℕ → Type 0) → List ℕ → Type 0

@@ -9,7 +9,7 @@ use crate::construction::subsets;
 use crate::pattern::places_of;
 use helix_automata::Dfa;
 use helix_base::Memory;
-use helix_regex::Regex;
+use helix_expr::Regex;
 use std::alloc::Global;
 
 /// The automaton of the words that a pattern matches or, where `containing` is true, of those that contain a match with

@@ -1,14 +1,14 @@
 //! How an expression is laid out as places, from its end to its beginning.
 
 ghost use Rattle.std.specs.Prelude.{ℕ, List, [], false, ◌≡◌, IsTrue, IfOk, OnOk};
-ghost use Rattle.helix_regex.specs.Matching.{Matches, MatchInOrder, MatchSome, Joined, UpTo, Repeats};
+ghost use Rattle.helix_expr.specs.Matching.{Matches, MatchInOrder, MatchSome, Joined, UpTo, Repeats};
 ghost use Rattle.helix_compile.specs.Places.{Grows, LaysOut};
 ghost use Rattle.helix_compile.specs.Repeating.{AnyNumber, UpToNumber, RepeatsMore};
 
 use crate::place::{Place, Places};
 use crate::silence::reads_nothing;
 use helix_base::Memory;
-use helix_regex::Expr;
+use helix_expr::Expr;
 use std::alloc::Global;
 
 /// Lays out an expression before a place, and answers where it begins.

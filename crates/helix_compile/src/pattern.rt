@@ -8,7 +8,7 @@ ghost use Rattle.helix_compile.specs.Patterns.{Answers, Beside, PatternWords};
 use crate::layout::{lay, lay_star};
 use crate::place::{Place, Places};
 use helix_base::Memory;
-use helix_regex::{Expr, Ranges, Regex};
+use helix_expr::{Expr, Ranges, Regex};
 use std::alloc::Global;
 
 /// Lays out any characters before a place, unless an anchor binds there.

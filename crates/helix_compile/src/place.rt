@@ -3,7 +3,7 @@
 ghost use Rattle.std.specs.Prelude.{◌≡◌, ◌<◌, [], ◌∷◌, ◌++◌, IfOk, OnOk, OnErr, length, set};
 
 use helix_base::Memory;
-use helix_regex::Ranges;
+use helix_expr::Ranges;
 use std::alloc::Global;
 use std::marker::Model;
 

@@ -1,9 +1,9 @@
 //! Expressions that read no character, however often they are repeated.
 
 ghost use Rattle.std.specs.Prelude.{ℕ, List, ◌≡◌, [], Some, IsTrue};
-ghost use Rattle.helix_regex.specs.Matching.{Matches, MatchInOrder, MatchSome};
+ghost use Rattle.helix_expr.specs.Matching.{Matches, MatchInOrder, MatchSome};
 
-use helix_regex::Expr;
+use helix_expr::Expr;
 
 /// Whether it is plain that an expression matches no other word than the empty one.
 #[cycle(silence)]

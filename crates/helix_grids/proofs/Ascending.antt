@@ -10,7 +10,7 @@ use Rattle.std.proofs.lemmas.Cmp.{int_ranked, int_cmp_total}
 use Rattle.std.proofs.lemmas.List.Sorted.{sorted_far, ranks_by, searchable_from_sorted}
 use Rattle.std.proofs.lemmas.List.{get_or_default}
 use Rattle.std.proofs.lemmas.Option.{slice_get-get_or, slice_get_past}
-use Rattle.helix_values.specs.Scale.{IsLeast}
+use Rattle.helix_ladders.specs.Scale.{IsLeast}
 use Rattle.helix_grids.specs.Tests.{IsLeastOf}
 use Rattle.helix_grids.specs.Sieve.{IsAscending}
 

@@ -1,7 +1,7 @@
 -- The least number of a set, and of a set with the same numbers.
 use Rattle.std.proofs.Common.{ℤ, ◌≤ℤ◌, Option, Some, None, arith}
 use Rattle.std.proofs.lemmas.Int.{ints}
-use Rattle.helix_values.specs.Scale.{IsLeast, IsAtOrAfter}
+use Rattle.helix_ladders.specs.Scale.{IsLeast, IsAtOrAfter}
 use Rattle.helix_grids.specs.Tests.{IsLeastOf}
 
 -- what holds of the least number of one set holds of that of another, if both have the same numbers

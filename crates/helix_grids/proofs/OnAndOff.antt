@@ -3,7 +3,7 @@ use Rattle.std.proofs.Common.{rules, ◌≡◌, ◌<◌, ℕ, ◌+◌, ◌-◌, 
 use Rattle.std.specs.Int.{w128}
 use borrow.Author.Differences.{up, down}
 use Rattle.std.proofs.lemmas.Int.{ints, by_lt_z}
-use Rattle.helix_values.specs.Scale.{IsLeast, IsAtOrAfter}
+use Rattle.helix_ladders.specs.Scale.{IsLeast, IsAtOrAfter}
 
 -- what is sought, from a bound on
 abbrev pub Sought : ℤ → ℤ → (ℤ → Type 0) → (ℤ → Type 0) → ℤ → ℤ → Type 0

@@ -5,7 +5,7 @@ use Rattle.std.specs.List.{Contains, HoldsAt}
 use Rattle.std.proofs.lemmas.Int.{ints}
 use Rattle.std.proofs.lemmas.Bool.{cases_lt, cases_eq}
 use Rattle.std.proofs.lemmas.List.{get_or_default, get_or-set_same, get_or-set_other}
-use Rattle.helix_values.specs.Scale.{IsLeast}
+use Rattle.helix_ladders.specs.Scale.{IsLeast}
 use Rattle.helix_grids.specs.declared.window.Window.{Window}
 use Rattle.helix_grids.specs.Tests.{IsLeastOf}
 use Rattle.helix_grids.specs.Window.{IsInWindow}

@@ -4,7 +4,7 @@ use Rattle.std.proofs.lemmas.Bool.{cases_lt}
 use Rattle.std.specs.Option.{IfSome}
 use Rattle.std.specs.Int.{int_max}
 use Rattle.std.proofs.lemmas.Int.{ints, clamps}
-use Rattle.helix_values.specs.Scale.{IsAtOrAfter}
+use Rattle.helix_ladders.specs.Scale.{IsAtOrAfter}
 use Rattle.helix_grids.specs.declared.window.Window.{Window}
 use Rattle.helix_grids.specs.Tests.{IsLeastOf}
 use Rattle.helix_grids.specs.Window.{IsInWindow}

@@ -1,7 +1,7 @@
 -- Which values of a ladder pass a list of tests, and the least of them.
 use Rattle.std.specs.Prelude.{ℕ, ℤ, ◌<◌, ◌≤ℤ◌, List, Option, MatchOption}
 use Rattle.std.specs.List.{All, Contains}
-use Rattle.helix_values.specs.Scale.{IsLeast}
+use Rattle.helix_ladders.specs.Scale.{IsLeast}
 use Rattle.helix_grids.specs.declared.test.GridTest.{GridTest}
 use Rattle.helix_grids.specs.declared.test.GridTest.TheVariants as test
 

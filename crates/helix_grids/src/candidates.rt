@@ -7,7 +7,7 @@ ghost use Rattle.helix_grids.specs.Tests.{IsLeastOf};
 use crate::search::first_from;
 use crate::sieve::first_sifted;
 use crate::window::Window;
-use helix_values::Scale;
+use helix_ladders::Scale;
 
 /// Values of a window, in ascending order.
 #[derive(Debug, Drop)]

@@ -8,7 +8,7 @@ use crate::narrow::narrowed;
 use crate::test::GridTest;
 use crate::window::Window;
 use helix_base::Memory;
-use helix_values::Scale;
+use helix_ladders::Scale;
 use std::alloc::Global;
 use std::marker::Model;
 

@@ -10,7 +10,7 @@ use crate::search::is_listed;
 use crate::sieve::is_sifted;
 use crate::window::Window;
 use helix_base::Memory;
-use helix_values::Scale;
+use helix_ladders::Scale;
 use std::alloc::Global;
 
 /// The values of a list that lie in a window and aren't excluded.

@@ -12,7 +12,7 @@ use crate::sieve::next_of;
 use crate::test::GridTest;
 use crate::window::{Window, with_least, with_most, with_off, with_on};
 use helix_base::Memory;
-use helix_values::Scale;
+use helix_ladders::Scale;
 use std::alloc::Global;
 
 /// The candidates that pass a test.

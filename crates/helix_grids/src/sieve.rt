@@ -8,7 +8,7 @@ ghost use Rattle.helix_grids.specs.Sieve.{IsAscending, IsSifted, AreNext};
 use crate::search::{is_listed, place_of};
 use crate::window::{Window, first_in, is_in_window};
 use helix_base::Memory;
-use helix_values::Scale;
+use helix_ladders::Scale;
 use std::alloc::Global;
 
 /// Whether a value lies in a window and isn't excluded.

@@ -7,7 +7,7 @@ mod scan;
 
 use crate::{Grid, GridTest, Numbers};
 use helix_base::Memory;
-use helix_values::{Calendar, Decades, Scale};
+use helix_ladders::{Calendar, Decades, Scale};
 use std::alloc::Global;
 use std::process::Abort;
 use std::test::Fail;

@@ -1,11 +1,11 @@
 //! The part of a ladder that bounds and grids leave.
 
 ghost use Rattle.std.specs.Prelude.{ℤ, ◌≡◌, ◌↔◌, ◌<◌, ◌≤◌, ◌≤ℤ◌, IsTrue, IfSome};
-ghost use Rattle.helix_values.specs.Scale.{IsAtOrAfter};
+ghost use Rattle.helix_ladders.specs.Scale.{IsAtOrAfter};
 ghost use Rattle.helix_grids.specs.Tests.{IsLeastOf};
 ghost use Rattle.helix_grids.specs.Window.{IsInWindow, IsWindowOf};
 
-use helix_values::Scale;
+use helix_ladders::Scale;
 
 /// The values from `least` to `most` that are on the grid of one level and off that of another.
 #[derive(Clone, Copy, Debug)]

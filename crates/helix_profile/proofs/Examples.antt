@@ -1,6 +1,6 @@
 -- Known values of the definitions that no function computes.
 use Rattle.std.proofs.Common.{◌≡◌, ℕ, [], ◌∷◌, None, true, false, inl, inr, refl}
-use Rattle.helix_values.specs.declared.offset.Offset.TheVariants as offset
+use Rattle.helix_ladders.specs.declared.offset.Offset.TheVariants as offset
 use Rattle.std.specs.Prelude.{pos}
 use Rattle.helix_profile.specs.Forest.{IsCycle}
 use Rattle.helix_profile.specs.Violation.{negated_at}

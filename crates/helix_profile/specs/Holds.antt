@@ -1,12 +1,12 @@
 -- What a test says of a value, and a relation of two values. Null has no place here.
 use Rattle.std.specs.Prelude.{◌≡◌, ℕ, ◌<◌, ℤ, ◌<ℤ◌, ◌≤ℤ◌, List, length, Contains, false}
-use Rattle.helix_regex.specs.Matching.{Matches, ContainsMatch}
-use Rattle.helix_values.specs.Grids.{IsOnGrid}
-use Rattle.helix_values.specs.Shift.{shifted}
+use Rattle.helix_expr.specs.Matching.{Matches, ContainsMatch}
+use Rattle.helix_values.specs.OnGrid.{IsOnGrid}
+use Rattle.helix_ladders.specs.Shift.{shifted}
 use Rattle.helix_values.specs.declared.cell.Cell.{Cell}
 use Rattle.helix_values.specs.declared.cell.Cell.TheVariants as cell
-use Rattle.helix_values.specs.declared.offset.Offset.{Offset}
-use Rattle.helix_values.specs.declared.offset.Offset.TheVariants as offset
+use Rattle.helix_ladders.specs.declared.offset.Offset.{Offset}
+use Rattle.helix_ladders.specs.declared.offset.Offset.TheVariants as offset
 use Rattle.helix_profile.specs.declared.relation.Compare.{Compare}
 use Rattle.helix_profile.specs.declared.relation.Compare.TheVariants as compare
 use Rattle.helix_profile.specs.declared.relation.Relation.{Relation}

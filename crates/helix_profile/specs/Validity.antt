@@ -6,8 +6,8 @@ use Rattle.helix_values.specs.Universe.{InUniverse}
 use Rattle.helix_values.specs.declared.cell.Cell.{Cell}
 use Rattle.helix_values.specs.declared.kind.Kind.{Kind}
 use Rattle.helix_values.specs.declared.kind.Kind.TheVariants as kind
-use Rattle.helix_values.specs.declared.offset.Offset.{Offset}
-use Rattle.helix_values.specs.declared.offset.Offset.TheVariants as offset
+use Rattle.helix_ladders.specs.declared.offset.Offset.{Offset}
+use Rattle.helix_ladders.specs.declared.offset.Offset.TheVariants as offset
 use Rattle.helix_profile.specs.Content.{Content}
 use Rattle.helix_profile.specs.Fields.{all_relations}
 use Rattle.helix_profile.specs.Forest.{IsForest}

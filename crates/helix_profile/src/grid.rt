@@ -1,7 +1,8 @@
 //! Grids of any level.
 
 ghost use Rattle.std.specs.Prelude.{◌↔◌, ◌≡◌, ◌≤◌, ◌^◌, ◌<◌, IsTrue};
-ghost use Rattle.helix_values.specs.Grids.{IsOnGrid, IsOnNumberGrid};
+ghost use Rattle.helix_ladders.specs.Grids.{IsOnNumberGrid};
+ghost use Rattle.helix_values.specs.OnGrid.{IsOnGrid};
 ghost use Rattle.helix_values.specs.View.{cell_of};
 
 use helix_values::{CellRef, is_on_grid};

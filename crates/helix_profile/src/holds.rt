@@ -8,7 +8,7 @@ use crate::compare::{cells_compare, is_member, is_same};
 use crate::grid::is_on_level;
 use crate::relation::Compare;
 use crate::test::Test;
-use helix_regex::{contains_match, matches};
+use helix_expr::{contains_match, matches};
 use helix_values::CellRef;
 
 /// Whether a test holds of a value that isn't null.

@@ -2,7 +2,7 @@
 
 ghost use Rattle.std.specs.Prelude.{ℤ, ◌↔◌, ◌<ℤ◌, ◌+ℤ◌, IsTrue};
 ghost use Rattle.helix_profile.specs.Holds.{Compares, NumbersRelated, Related};
-ghost use Rattle.helix_values.specs.Shift.{shifted as shifted_value};
+ghost use Rattle.helix_ladders.specs.Shift.{shifted as shifted_value};
 ghost use Rattle.helix_values.specs.View.{cell_of};
 
 use crate::compare::{compares, is_same};

@@ -3,7 +3,7 @@
 ghost use Rattle.std.specs.Prelude.{◌≡◌, IfOk};
 
 use helix_base::Memory;
-use helix_regex::Regex;
+use helix_expr::Regex;
 use helix_values::{Cell, Cells};
 use std::alloc::Global;
 

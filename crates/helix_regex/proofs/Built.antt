@@ -3,9 +3,9 @@ use Rattle.std.proofs.Common.{◌≡◌, ℕ, ◌+◌, ◌<◌, ◌≤◌, ◌&&
 use Rattle.std.proofs.lemmas.List.{append-nil, take_more, take_all}
 use Rattle.std.specs.List.{list_any}
 use Rattle.helix_base.specs.Ranges.{is_listed}
-use Rattle.helix_regex.specs.declared.expr.Expr.{Expr, Chars}
-use Rattle.helix_regex.specs.declared.expr.Expr.TheViews.{Repeat}
-use Rattle.helix_regex.specs.declared.regex.Regex.{Regex}
+use Rattle.helix_expr.specs.declared.expr.Expr.{Expr, Chars}
+use Rattle.helix_expr.specs.declared.expr.Expr.TheViews.{Repeat}
+use Rattle.helix_expr.specs.declared.regex.Regex.{Regex}
 use Rattle.helix_regex.specs.declared.token.Token.{Token}
 use Rattle.helix_regex.specs.declared.token.Token.TheVariants as token
 use Rattle.helix_regex.specs.declared.builder.Level.{Level}

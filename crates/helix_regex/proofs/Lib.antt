@@ -1,5 +1,3 @@
-pub mod Parts
-pub mod Splits
 pub mod Decides
 pub mod Agreeing
 pub mod Texts

@@ -3,8 +3,8 @@ use Rattle.std.proofs.Common.{◌≡◌, ℕ, ◌+◌, ◌≤◌, ◌<◌, inl, 
 use Rattle.std.proofs.lemmas.Bool.{leb-true, ltb-true, le-leb, cases_lt, cases_order}
 use Rattle.helix_base.specs.Alphabet.{is_in_range}
 use Rattle.helix_base.specs.Ranges.{is_listed}
-use Rattle.helix_regex.specs.declared.expr.Expr.{Chars}
-use Rattle.helix_regex.specs.declared.regex.Regex.{Regex}
+use Rattle.helix_expr.specs.declared.expr.Expr.{Chars}
+use Rattle.helix_expr.specs.declared.regex.Regex.{Regex}
 use Rattle.helix_regex.specs.Pattern.{Pattern, end, bar, caret, dollar, one, group}
 use Rattle.helix_regex.specs.Meaning.{are_separate, AreRangesOf, single_has, Parts, HasParts, behind_bar, with_piece, quantified, together, has_caret, has_dollar, MeansRegex, SpellsPattern}
 use Rattle.helix_regex.proofs.Reading.{one_pattern}

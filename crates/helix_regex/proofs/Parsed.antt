@@ -1,7 +1,7 @@
 -- A text that breaks no rule has no fault.
 use Rattle.std.proofs.Common.{◌≡◌, ◌≢◌, ℕ, true, false, Option, Some, None, IfSome, IfNone, List, [], length, sym, ◌∙◌, ap, subst}
 use Rattle.helix_regex.specs.declared.token.Token.{Token}
-use Rattle.helix_regex.specs.declared.regex.Regex.{Regex}
+use Rattle.helix_expr.specs.declared.regex.Regex.{Regex}
 use Rattle.helix_regex.specs.declared.fault.RegexFault.{RegexFault}
 use Rattle.helix_regex.specs.declared.fault.RegexRule.{RegexRule}
 use Rattle.helix_regex.specs.declared.fault.RegexRule.TheVariants as rule

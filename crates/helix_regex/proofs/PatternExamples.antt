@@ -1,7 +1,7 @@
 -- The grammar of patterns, its rules and its meaning at known patterns.
 use Rattle.std.proofs.Common.{◌≡◌, ℕ, suc, zero, true, false, [], ◌∷◌, refl, codes}
-use Rattle.helix_regex.specs.declared.expr.Expr.{Expr, Empty, Chars}
-use Rattle.helix_regex.specs.declared.expr.Expr.TheViews.{Seq, Alt}
+use Rattle.helix_expr.specs.declared.expr.Expr.{Expr, Empty, Chars}
+use Rattle.helix_expr.specs.declared.expr.Expr.TheViews.{Seq, Alt}
 use Rattle.helix_regex.specs.Pattern.{plain, escaped, single, range, dash, literal, dot, set, class, exactly, at_least, between, once, times, Pattern, end, bar, caret, dollar, one, group, pattern_text}
 use Rattle.helix_regex.specs.Meaning.{single_has, are_separate, together}
 use Rattle.helix_regex.specs.Faults.{bad_anchors, bad_ranges, bad_counts, is_too_large, positions}

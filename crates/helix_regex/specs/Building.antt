@@ -2,8 +2,8 @@
 use Rattle.std.specs.Prelude.{◌≡◌, ℕ, ◌==◌, ◌&&◌, not, Bool, true, false, List, [], ◌∷◌, ◌++◌}
 use Rattle.helix_base.specs.Ranges.{is_listed}
 use Rattle.helix_base.specs.Alphabet.{is_in_range}
-use Rattle.helix_regex.specs.declared.expr.Expr.{Expr, Empty, Chars}
-use Rattle.helix_regex.specs.declared.expr.Expr.TheViews.{Alt, Repeat}
+use Rattle.helix_expr.specs.declared.expr.Expr.{Expr, Empty, Chars}
+use Rattle.helix_expr.specs.declared.expr.Expr.TheViews.{Alt, Repeat}
 use Rattle.helix_regex.specs.declared.token.Token.{Token}
 use Rattle.helix_regex.specs.declared.token.Token.TheVariants as token
 use Rattle.helix_regex.specs.declared.builder.Level.{Level}

@@ -1,5 +1,3 @@
-pub mod Matching
-pub mod MatchingLaws
 pub mod Characters
 pub mod Pattern
 pub mod Meaning

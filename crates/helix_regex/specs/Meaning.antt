@@ -2,9 +2,9 @@
 use Rattle.std.specs.Prelude.{◌≡◌, ℕ, ◌+◌, ◌*◌, ◌-◌, ◌==◌, ◌&&◌, ◌||◌, not, nat_le, nat_lt, Bool, true, false, IsTrue, Some, None, List, [], ◌∷◌}
 use Rattle.std.specs.List.{list_any}
 use Rattle.helix_base.specs.Ranges.{is_listed}
-use Rattle.helix_regex.specs.declared.expr.Expr.{Expr, Empty, Chars}
-use Rattle.helix_regex.specs.declared.expr.Expr.TheViews.{Seq, Alt, Repeat}
-use Rattle.helix_regex.specs.declared.regex.Regex.{Regex}
+use Rattle.helix_expr.specs.declared.expr.Expr.{Expr, Empty, Chars}
+use Rattle.helix_expr.specs.declared.expr.Expr.TheViews.{Seq, Alt, Repeat}
+use Rattle.helix_expr.specs.declared.regex.Regex.{Regex}
 use Rattle.helix_regex.specs.Characters.{is_character, set_has}
 use Rattle.helix_regex.specs.Pattern.{End, plain, escaped, Item, single, range, set_item, dash, Single, literal, dot, escape, set, class, Count, star, plus, question, exactly, at_least, between, Quant, once, times, Pattern, end, bar, caret, dollar, one, group, Writes}
 

@@ -12,7 +12,7 @@ use crate::atoms::{
 };
 use crate::builder::{Builder, alternatives, close_group, end_sequence, open_group, repeat_last};
 use crate::phases::{has_caret, has_dollar};
-use crate::regex::Regex;
+use helix_expr::Regex;
 use crate::token::Token;
 use helix_base::Memory;
 use std::alloc::Global;

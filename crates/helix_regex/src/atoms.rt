@@ -8,9 +8,9 @@ ghost use Rattle.helix_regex.specs.Meaning.{are_separate, AreRangesOf};
 ghost use Rattle.helix_regex.specs.Building.{class_has, PushesSet, Gained};
 
 use crate::builder::{Builder, push_piece};
-use crate::expr::Expr;
+use helix_expr::Expr;
 use crate::joined::separated;
-use crate::ranges::Ranges;
+use helix_expr::Ranges;
 use crate::sets::{push_clipped, push_gaps, push_one, push_set};
 use helix_base::Memory;
 use std::alloc::Global;

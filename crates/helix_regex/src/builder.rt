@@ -5,7 +5,7 @@ ghost use Rattle.helix_regex.specs.Meaning.{in_sequence};
 ghost use Rattle.helix_regex.specs.Building.{choice, Steps, Pushes, Opens, Ends};
 ghost use Rattle.helix_regex.specs.declared.token.Token.TheVariants.{Close, Repeat};
 
-use crate::expr::{Expr, Exprs};
+use helix_expr::{Expr, Exprs};
 use helix_base::Memory;
 use sqlite_items::{Boxed, Items};
 use std::alloc::Global;

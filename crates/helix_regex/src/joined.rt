@@ -5,7 +5,7 @@ ghost use Rattle.helix_base.specs.Ranges.{is_listed};
 ghost use Rattle.helix_regex.specs.Meaning.{AreRangesOf};
 ghost use Rattle.helix_regex.specs.Sets.{Ascending, touches, joined, joined_from};
 
-use crate::ranges::Ranges;
+use helix_expr::Ranges;
 use helix_base::Memory;
 use std::alloc::Global;
 

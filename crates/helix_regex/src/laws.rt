@@ -1,7 +1,7 @@
 //! What holds of patterns by their definition alone.
 
 ghost use Rattle.std.specs.Prelude.{◌≡◌, ℕ, List};
-ghost use Rattle.helix_regex.specs.declared.regex.Regex.{Regex as Value};
+ghost use Rattle.helix_expr.specs.declared.regex.Regex.{Regex as Value};
 ghost use Rattle.helix_regex.specs.Pattern.{Pattern, Writes};
 ghost use Rattle.helix_regex.specs.declared.fault.RegexFault.{RegexFault as Broken};
 ghost use Rattle.helix_regex.specs.Meaning.{SpellsPattern};

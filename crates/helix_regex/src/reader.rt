@@ -10,7 +10,7 @@ use crate::assembly::build;
 use crate::check::{text_fault, token_fault};
 use crate::fault::{RegexError, RegexFault};
 use crate::lexer::tokens_of;
-use crate::regex::Regex;
+use helix_expr::Regex;
 use helix_base::{Memory, Text};
 use std::alloc::Global;
 

@@ -7,7 +7,7 @@ ghost use Rattle.helix_regex.specs.Characters.{is_character, is_word, set_has};
 ghost use Rattle.helix_regex.specs.Meaning.{are_separate, AreRangesOf};
 ghost use Rattle.helix_regex.specs.Sets.{Gains, GainsAllBut};
 
-use crate::ranges::Ranges;
+use helix_expr::Ranges;
 use helix_base::Memory;
 use std::alloc::{AllocError, Global};
 

@@ -2,16 +2,8 @@ pub mod View
 pub mod Class
 pub mod Order
 pub mod Codes
-pub mod Calendar
-pub mod Grids
 pub mod Universe
-pub mod Shift
-pub mod Scale
-pub mod LadderLaws
-pub mod Rising
-pub mod Texts
-pub mod Spelling
-pub mod Reading
 pub mod Slot
 pub mod Marks
 pub mod Counts
+pub mod OnGrid

@@ -6,9 +6,9 @@ use Rattle.helix_values.specs.declared.kind.Kind.{Kind}
 use Rattle.helix_values.specs.declared.kind.Kind.TheVariants as kind
 use Rattle.helix_values.specs.declared.cell.Cell.{Cell}
 use Rattle.helix_values.specs.declared.cell.Cell.TheVariants as cell
-use Rattle.helix_values.specs.Calendar.{IsMoment, millis_of_day}
+use Rattle.helix_ladders.specs.Calendar.{IsMoment, millis_of_day}
 use Rattle.helix_values.specs.Codes.{IsValidCode}
-use Rattle.helix_values.specs.Grids.{IsMultipleOf}
+use Rattle.helix_ladders.specs.Grids.{IsMultipleOf}
 
 -- a number from -10^20 to 10^20
 abbrev pub IsNumber : ℤ → Type 0

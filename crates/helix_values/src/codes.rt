@@ -171,7 +171,7 @@ fn value_of(c: u32) -> u64
     }
 }
 
-pub(crate) fn is_digit(c: u32) -> bool
+pub fn is_digit(c: u32) -> bool
     ensures { result ≡ digit c }
 {
     (0x30..=0x39).contains(&c)

@@ -5,14 +5,11 @@ ghost use Rattle.std.specs.Cmp.{IsTotalOrder};
 ghost use Rattle.std.specs.FinMap.{IsAntisymmetric};
 ghost use Rattle.helix_values.specs.declared.cell.Cell.{Cell};
 ghost use Rattle.helix_values.specs.declared.kind.Kind.{Kind};
-ghost use Rattle.helix_values.specs.Calendar.{IsDate, day_number, year_of, month_of, day_of_month, year_start, days_of_calendar};
 ghost use Rattle.helix_values.specs.Class.{Class, class_of, class_of_kind, IsNullOr, AreComparable};
 ghost use Rattle.helix_values.specs.Universe.{InUniverse};
 ghost use Rattle.helix_values.specs.declared.mark.Mark.{Mark};
 ghost use Rattle.helix_values.specs.Counts.{IsMarkOf, widest_kind, values_left};
 ghost use Rattle.helix_values.specs.Marks.{IsAdmitted};
-ghost use Rattle.helix_values.specs.Texts.{cell_text};
-ghost use Rattle.helix_values.specs.Spelling.{Spells};
 ghost use Rattle.helix_values.specs.Order.{cell_cmp, row_cmp, CellLess, RowLess};
 
 /// Of two cells one stands before the other, or they are equal.
@@ -35,23 +32,6 @@ pub fn rows_have_a_total_order()
 pub fn universes_lie_in_classes()
     ensures class { (k : Kind) (c : Cell) → InUniverse k c → class_of c ≡ Some (class_of_kind k) }
     ensures comparable { (class : Class) (a b : Cell) → IsNullOr class a → IsNullOr class b → AreComparable a b }
-{}
-
-/// A date is found again from the number of its day, which is one of the calendar's.
-pub fn dates_have_day_numbers()
-    ensures year { (y m d : ℕ) → IsDate y m d → year_of (day_number y m d) ≡ y }
-    ensures month { (y m d : ℕ) → IsDate y m d → month_of (day_number y m d) ≡ m }
-    ensures day { (y m d : ℕ) → IsDate y m d → day_of_month (day_number y m d) ≡ d }
-    ensures within { (y m d : ℕ) → IsDate y m d → day_number y m d < days_of_calendar }
-    ensures end { year_start 10000 ≡ days_of_calendar }
-{}
-
-/// The written form of a value spells it, and a text spells at most one value of a kind. So two
-/// values of a kind have two texts.
-pub fn texts_are_read_back()
-    ensures written { (k : Kind) (c : Cell) → InUniverse k c → Spells k (cell_text k c) c }
-    ensures one { (k : Kind) (t : List ℕ) (c d : Cell) → Spells k t c → Spells k t d → c ≡ d }
-    ensures different { (k : Kind) (c d : Cell) → InUniverse k c → InUniverse k d → cell_text k c ≡ cell_text k d → c ≡ d }
 {}
 
 /// A mark that no longer admits a value of the widest universe of its class leaves fewer of them.

@@ -1,7 +1,4 @@
-mod dates;
-mod ladders;
 mod slots;
-mod texts;
 
 use crate::{Cell, CellRef, Cells, Code, Kind, Row, cmp_cell, in_universe, valid};
 use helix_base::{Alphabet, Text};

@@ -1,17 +1,15 @@
 //! The universe of a kind.
 
 ghost use Rattle.std.specs.Prelude.{◌↔◌, ◌^◌, IsTrue};
-ghost use Rattle.helix_values.specs.Calendar.{IsMoment, millis_of_day};
-ghost use Rattle.helix_values.specs.Grids.{IsMultipleOf};
+ghost use Rattle.helix_ladders.specs.Calendar.{IsMoment, millis_of_day};
+ghost use Rattle.helix_ladders.specs.Grids.{IsMultipleOf};
 ghost use Rattle.helix_values.specs.Universe.{InUniverse, IsNumber};
 ghost use Rattle.helix_values.specs.View.{cell_of};
 
-use crate::calendar::{LAST_MOMENT, MILLIS_OF_DAY};
 use crate::cell::CellRef;
 use crate::codes::valid;
-use crate::decades::{GREATEST, ONE};
 use crate::kind::Kind;
-use crate::multiples::is_multiple_of;
+use helix_ladders::{GREATEST, LAST_MOMENT, MILLIS_OF_DAY, ONE, is_multiple_of};
 
 /// The most characters that a text may have.
 const LONGEST: usize = 1000;

@@ -1,7 +1,8 @@
 use crate::dfa_of;
 use helix_automata::Dfa;
 use helix_base::{Alphabet, Memory, Text};
-use helix_regex::{Regex, RegexError, contains_match, matches, parse};
+use helix_expr::{Regex, contains_match, matches};
+use helix_regex::{RegexError, parse};
 use std::alloc::Global;
 use std::test::Fail;
 

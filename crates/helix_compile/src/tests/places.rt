@@ -2,7 +2,7 @@ use crate::construction::subsets;
 use crate::place::{Place, Places};
 use helix_automata::Dfa;
 use helix_base::{Alphabet, Memory, Text};
-use helix_regex::Ranges;
+use helix_expr::Ranges;
 use std::alloc::Global;
 use std::test::Fail;
 

@@ -3,7 +3,7 @@
 use super::{LAST_MOMENT, grid, numbers};
 use crate::GridTest;
 use helix_base::Memory;
-use helix_values::{Calendar, Decades, Scale};
+use helix_ladders::{Calendar, Decades, Scale};
 use std::alloc::Global;
 use std::process::Abort;
 use std::test::Fail;

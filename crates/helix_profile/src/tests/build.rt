@@ -2,7 +2,7 @@
 
 use crate::{Atom, Compare, Constraint, Constraints, Field, Relation, Test};
 use helix_base::{Memory, Text};
-use helix_regex::{Expr, Exprs, Ranges, Regex};
+use helix_expr::{Expr, Exprs, Ranges, Regex};
 use helix_values::{Cell, Cells, Kind, Offset};
 use sqlite_items::Boxed;
 use std::alloc::Global;

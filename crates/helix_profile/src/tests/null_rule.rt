@@ -4,7 +4,7 @@ use crate::tests::build::{
 };
 use crate::{Compare, Constraint, Test, satisfies};
 use helix_base::Memory;
-use helix_regex::Expr;
+use helix_expr::Expr;
 use helix_values::{Cell, Row};
 use std::alloc::Global;
 use std::test::Fail;

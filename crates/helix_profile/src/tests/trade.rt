@@ -4,7 +4,7 @@ use crate::tests::build::{
 };
 use crate::{Compare, Constraint, Constraints, Fields, Test, is_good_for};
 use helix_base::{Alphabet, Memory};
-use helix_regex::{Expr, Exprs, Regex};
+use helix_expr::{Expr, Exprs, Regex};
 use helix_values::{Cell, Kind, Row};
 use std::alloc::Global;
 use std::test::Fail;

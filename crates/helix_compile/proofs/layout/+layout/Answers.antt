@@ -1,5 +1,5 @@
 use Rattle.std.proofs.Common.{◌≡◌, subst, arith}
-use Rattle.helix_regex.specs.Matching.{Matches, Joined}
+use Rattle.helix_expr.specs.Matching.{Matches, Joined}
 use Rattle.helix_compile.specs.Places.{LaysOut}
 use Rattle.helix_compile.specs.Repeating.{UpToNumber}
 use Rattle.helix_compile.proofs.Arms.{empty_arm, chars_arm, seq_arm, alt_arm, repeat_arm, star_arm, stop_arm, optional_arm, repeated_arm, ok_grows, in_order_more, some_more, some_start, times_more, optional_start, optional_more, unasked_arm, never_arm, once_arm}

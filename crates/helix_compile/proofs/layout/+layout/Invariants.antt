@@ -1,6 +1,6 @@
 use Rattle.std.proofs.Common.{◌≡◌, ◌++◌, ◌+◌, ◌*◌, List, length}
-use Rattle.helix_regex.specs.declared.expr.Expr.{Expr}
-use Rattle.helix_regex.specs.Matching.{Matches, MatchInOrder, MatchSome, Joined}
+use Rattle.helix_expr.specs.declared.expr.Expr.{Expr}
+use Rattle.helix_expr.specs.Matching.{Matches, MatchInOrder, MatchSome, Joined}
 use Rattle.helix_compile.specs.Places.{Grows, LaysOut}
 use Rattle.helix_compile.specs.Repeating.{UpToNumber}
 use Rattle.helix_compile.proofs.layout.+layout.Given as goal

@@ -1,0 +1,79 @@
+-- What an expression matches: regular languages as textbooks define them, over words of code points.
+use Rattle.std.specs.Prelude.{◌≡◌, ℕ, zero, suc, ◌+◌, ◌<◌, ◌≤◌, length, take, drop, List, [], ◌∷◌, ◌++◌, ◌⊎◌, Bool, IsTrue, Option, MatchOption}
+use Rattle.helix_base.specs.Ranges.{is_listed}
+use Rattle.helix_expr.specs.declared.expr.Expr.{Expr, Empty, Chars, Seq', Alt', Repeat', Row_of-Expr, end_of-Expr, more_of-Expr}
+use Rattle.helix_expr.specs.declared.regex.Regex.{Regex}
+
+-- the code lies in one of the ranges, ends included
+abbrev pub InRanges : List (ℕ × ℕ) → ℕ → Type 0
+InRanges ranges code = IsTrue (is_listed ranges code)
+
+-- the word is one character of the ranges
+abbrev pub IsOneOf : List (ℕ × ℕ) → List ℕ → Type 0
+IsOneOf ranges [] = ⊥
+IsOneOf ranges (code ∷ []) = InRanges ranges code
+IsOneOf ranges (first ∷ second ∷ word) = ⊥
+
+-- the word is joined from this many words of a language
+abbrev pub Joined : (List ℕ → Type 0) → ℕ → List ℕ → Type 0
+Joined Language zero word = word ≡ []
+Joined Language (suc count) word = (front : List ℕ) × (rest : List ℕ) × (word ≡ front ++ rest) × Language front × Joined Language count rest
+
+-- the count is not above a greatest one, where there is one
+abbrev pub UpTo : Option ℕ → ℕ → Type 0
+UpTo most count = MatchOption most (Unit {0}) (λ limit. count ≤ limit)
+
+-- the word is joined from a number of words of a language that is in the limits
+abbrev pub Repeats : (List ℕ → Type 0) → ℕ → Option ℕ → List ℕ → Type 0
+Repeats Language least most word = (count : ℕ) × (least ≤ count) × UpTo most count × Joined Language count word
+
+abbrev mutual
+  -- the expression matches the whole word
+  pub Matches : Expr → List ℕ → Type 0
+  Matches Empty word = word ≡ []
+  Matches (Chars ranges) word = IsOneOf ranges word
+  Matches (Seq' shape parts) word = MatchesInOrder parts word
+  Matches (Alt' shape parts) word = MatchesSome parts word
+  Matches (Repeat' pointer part least most) word = Repeats (λ w. MatchesSome part w) least most word
+
+  -- the word splits into matches of the parts, in order
+  pub MatchesInOrder : {m : _} → Row_of-Expr m → List ℕ → Type 0
+  MatchesInOrder end_of-Expr word = word ≡ []
+  MatchesInOrder (more_of-Expr part parts) word = (front : List ℕ) × (rest : List ℕ) × (word ≡ front ++ rest) × Matches part front × MatchesInOrder parts rest
+
+  -- some part matches the whole word
+  pub MatchesSome : {m : _} → Row_of-Expr m → List ℕ → Type 0
+  MatchesSome end_of-Expr word = ⊥
+  MatchesSome (more_of-Expr part parts) word = Matches part word ⊎ MatchesSome parts word
+
+-- the word splits into matches of the expressions of a list, in order
+abbrev pub MatchInOrder : List Expr → List ℕ → Type 0
+MatchInOrder [] word = word ≡ []
+MatchInOrder (part ∷ parts) word = (front : List ℕ) × (rest : List ℕ) × (word ≡ front ++ rest) × Matches part front × MatchInOrder parts rest
+
+-- some expression of a list matches the whole word
+abbrev pub MatchSome : List Expr → List ℕ → Type 0
+MatchSome [] word = ⊥
+MatchSome (part ∷ parts) word = Matches part word ⊎ MatchSome parts word
+
+-- cut here, the word is a word of a language and one that is joined from words of the language
+abbrev pub SplitsAt : (List ℕ → Type 0) → ℕ → Option ℕ → ℕ → List ℕ → Type 0
+SplitsAt Language least most cut word = Language (take cut word) × Repeats Language least most (drop cut word)
+
+-- the same at some place, behind at least so many characters
+abbrev pub SplitsOff : (List ℕ → Type 0) → ℕ → Option ℕ → ℕ → List ℕ → Type 0
+SplitsOff Language least most shortest word = (cut : ℕ) × (shortest ≤ cut) × (cut < length word + 1) × SplitsAt Language least most cut word
+
+-- the word begins with a match, which is the whole word where the end is bound
+abbrev pub BeginsMatch : Expr → Bool → List ℕ → Type 0
+BeginsMatch expr at_end word = (front : List ℕ) × (rest : List ℕ) × (word ≡ front ++ rest) × Matches expr front × (IsTrue at_end → rest ≡ [])
+
+-- the word has a middle that matches, at its start or its end where an anchor says so
+pub record ContainsMatch (regex : Regex) (word : List ℕ) : Type 0 where
+  pub before : List ℕ
+  pub middle : List ℕ
+  pub after : List ℕ
+  pub split : word ≡ before ++ (middle ++ after)
+  pub match : Matches regex.expr middle
+  pub from_start : IsTrue regex.at_start → before ≡ []
+  pub to_end : IsTrue regex.at_end → after ≡ []

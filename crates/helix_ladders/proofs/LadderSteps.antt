@@ -1,0 +1,183 @@
+-- The next month start and the next year start of the calendar.
+use Rattle.std.proofs.Common.{◌≡◌, ◌≢◌, ℕ, ◌+◌, ◌-◌, ◌<◌, ◌≤◌, ◌⊎◌, inl, inr, ℤ, pos, ◌≤ℤ◌, refl, ap, subst, arith}
+use Rattle.std.proofs.Common.{⊎_elim}
+use Rattle.std.proofs.lemmas.Bool.{cases_lt, cases_order}
+use Rattle.std.proofs.lemmas.Int.{ints}
+use Rattle.jiff_core.proofs.CalendarLemmas.{days_in_month_bounds}
+use Rattle.helix_ladders.specs.Calendar.{sum_up_to, IsDate, days_of_year, days_of_month, year_start, month_start, day_number, days_of_calendar, midnight}
+use Rattle.helix_ladders.specs.Grids.{IsMonthStart, IsYearStart}
+use Rattle.helix_ladders.specs.Scale.{IsLeast}
+use Rattle.helix_ladders.proofs.Totals.{sum_up_to-zero, sum_up_to-suc, sum_up_to-le, sum_up_to-next}
+use Rattle.helix_ladders.proofs.GregorianYears.{days_of_months, end_of_calendar}
+use Rattle.helix_ladders.proofs.CivilDates.{month_end, year_end, in_calendar}
+use Rattle.helix_ladders.proofs.JiffDates.{same_month}
+
+pub month_bound : (year month : ℕ) → 1 ≤ month → month ≤ 12 → (28 ≤ days_of_month year month) × (days_of_month year month ≤ 31)
+month_bound year month from_1 to_12 =
+    (omega (arith, days_in_month_bounds (pos year) month, same_month year month from_1 to_12), omega (arith, days_in_month_bounds (pos year) month, same_month year month from_1 to_12))
+
+-- the first day of a month is a date
+first_of_month : (year month : ℕ) → 1 ≤ year → year ≤ 9999 → 1 ≤ month → month ≤ 12 → IsDate year month 1
+first_of_month year month year_from_1 year_to_9999 from_1 to_12 =
+    record {
+      year_from_1 = year_from_1;
+      year_to_9999 = year_to_9999;
+      month_from_1 = from_1;
+      month_to_12 = to_12;
+      day_from_1 = omega arith;
+      day_to_last = omega (arith, month_bound year month from_1 to_12);
+    }
+
+-- no month begins after the calendar's last day
+pub no_month_after : (day : ℕ) (v : ℤ) → days_of_calendar ≤ day → midnight day ≤ℤ v → IsMonthStart v → ⊥
+no_month_after day v past reached (year, month, date, start) = omega (arith, ints, in_calendar year month 1 date)
+
+pub no_year_after : (day : ℕ) (v : ℤ) → days_of_calendar ≤ day → midnight day ≤ℤ v → IsYearStart v → ⊥
+no_year_after day v past reached (year, date, start) = omega (arith, ints, in_calendar year 1 1 date)
+
+module _ (year month number : ℕ) (date : IsDate year month number) where
+  -- a month that begins after a day of this one begins after all of them
+  later_month : (y m : ℕ) → IsDate y m 1 → number ≢ 1 → day_number year month number ≤ day_number y m 1 → month_start year month + days_of_month year month ≤ day_number y m 1
+  later_month y m other no_first reached =
+      elim (cases_order y year) [
+        | inl same ↦
+            let same_start : day_number y m 1 ≡ month_start year m = subst (λ k. day_number y m 1 ≡ month_start k m) same (omega arith) in
+            ⊎_elim {A = month < m} {B = m ≤ month}
+            (λ after. omega (arith, sum_up_to-next (days_of_month year) month date.month_from_1, sum_up_to-le (days_of_month year) (month + 1 - 1) (m - 1) (omega arith)))
+            (λ before. absurd (omega (arith, date.day_from_1, sum_up_to-le (days_of_month year) (m - 1) (month - 1) (omega arith))))
+            (cases_lt month m)
+        | inr (inl before) ↦
+            absurd
+            (omega (
+              arith,
+              year_end y m 1 other,
+              date.day_from_1,
+              sum_up_to-next days_of_year y other.year_from_1,
+              sum_up_to-le days_of_year (y + 1 - 1) (year - 1) (omega arith),
+            ))
+        | inr (inr after) ↦
+            omega (
+              arith,
+              month_end year month number date,
+              sum_up_to-next days_of_year year date.year_from_1,
+              sum_up_to-le days_of_year (year + 1 - 1) (y - 1) (omega arith),
+            )
+      ]
+
+  -- the months end with the year
+  december_ends : 12 ≤ month → month_start year month + days_of_month year month ≡ year_start (year + 1)
+  december_ends last =
+      let twelve : 12 ≡ month + 1 - 1 = omega (arith, date.month_to_12) in
+      let whole : sum_up_to (days_of_month year) (month + 1 - 1) ≡ days_of_year year = subst (λ n. sum_up_to (days_of_month year) n ≡ days_of_year year) twelve (days_of_months year) in
+      omega (arith, whole, sum_up_to-next (days_of_month year) month date.month_from_1, sum_up_to-next days_of_year year date.year_from_1)
+
+  -- and the years with the calendar
+  year_ends : year_start (year + 1) < days_of_calendar → year < 9999
+  year_ends within =
+      ⊎_elim {A = year < 9999} {B = 9999 ≤ year} (λ inside. inside)
+      (λ last.
+      let end : 9999 ≡ year + 1 - 1 = omega (arith, date.year_to_9999) in
+      absurd (omega (arith, subst (λ n. sum_up_to days_of_year n ≡ days_of_calendar) end end_of_calendar)))
+      (cases_lt year 9999)
+
+  new_year : day_number (year + 1) 1 1 ≡ year_start (year + 1)
+  new_year = omega (arith, sum_up_to-zero (days_of_month (year + 1)))
+
+  -- the days of this month are followed by the first of the next
+  pub next_month : month_start year month + days_of_month year month < days_of_calendar → IsMonthStart (midnight (month_start year month + days_of_month year month))
+  next_month within =
+      ⊎_elim {A = month < 12} {B = 12 ≤ month}
+      (λ inside.
+      let start : month_start year month + days_of_month year month ≡ day_number year (month + 1) 1 = omega (arith, sum_up_to-next (days_of_month year) month date.month_from_1) in
+      (year, month + 1, first_of_month year (month + 1) date.year_from_1 date.year_to_9999 (omega arith) (omega arith), ap midnight start))
+      (λ last.
+      let start : month_start year month + days_of_month year month ≡ day_number (year + 1) 1 1 = omega (arith, december_ends last, new_year) in
+      (year + 1, 1, first_of_month (year + 1) 1 (omega arith) (omega (arith, year_ends (omega (arith, december_ends last)))) (omega arith) (omega arith), ap midnight start))
+      (cases_lt month 12)
+
+  -- a year that begins after a day of this one, which isn't its first, begins after all of them
+  later_year : (y : ℕ) → IsDate y 1 1 → ((month ≡ 1) × (number ≡ 1) → ⊥) → day_number year month number ≤ day_number y 1 1 → day_number (year + 1) 1 1 ≤ day_number y 1 1
+  later_year y other no_first reached =
+      ⊎_elim {A = year < y} {B = y ≤ year}
+      (λ after. omega (arith, sum_up_to-le days_of_year (year + 1 - 1) (y - 1) (omega arith), new_year, sum_up_to-zero (days_of_month y)))
+      (λ before. absurd (no_first (first (omega (arith, sum_up_to-le days_of_year (y - 1) (year - 1) (omega arith), sum_up_to-zero (days_of_month y), date.day_from_1)))))
+      (cases_lt year y)
+    where
+      first : sum_up_to (days_of_month year) (month - 1) + (number - 1) ≡ 0 → (month ≡ 1) × (number ≡ 1)
+      first none = (
+        ⊎_elim {A = month < 2} {B = 2 ≤ month} (λ january. omega (arith, date.month_from_1))
+            (λ later. absurd (omega (arith, sum_up_to-le (days_of_month year) 1 (month - 1) (omega arith), sum_up_to-suc (days_of_month year) 0, sum_up_to-zero (days_of_month year), month_bound year 1 (omega arith) (omega arith))))
+            (cases_lt month 2),
+        omega (arith, date.day_from_1),
+      )
+
+  -- the first moment of the next month is the least month start from this day on, where this one isn't it
+  pub next_month_least : (day next : ℕ) → day_number year month number ≡ day → number ≢ 1 → next ≡ day + (days_of_month year month + 1 - number) → next < days_of_calendar
+      → IsLeast (λ v. IsMonthStart v × (midnight day ≤ℤ v)) (midnight next)
+  next_month_least day next is no_first step within =
+      let there : next ≡ month_start year month + days_of_month year month = omega (arith, date.day_from_1, date.day_to_last) in
+      record {
+        has = (rw there (next_month (omega arith)), omega (arith, ints, date.day_to_last));
+        least = λ w h. least_of w h.0 h.1;
+      }
+    where
+      least_of : (w : ℤ) → IsMonthStart w → midnight day ≤ℤ w → midnight next ≤ℤ w
+      least_of w (y, m, other, start) reached = rw start (omega (arith, ints, later_month y m other no_first (omega (arith, ints, rw start at reached)), date.day_from_1, date.day_to_last))
+
+  -- and there is none where the calendar ends before
+  pub no_next_month : (day : ℕ) (v : ℤ) → day_number year month number ≡ day → number ≢ 1 → days_of_calendar ≤ day + (days_of_month year month + 1 - number) → midnight day ≤ℤ v → IsMonthStart v → ⊥
+  no_next_month day v is no_first past reached (y, m, other, start) =
+      omega (
+        arith,
+        later_month y m other no_first (omega (arith, ints, rw start at reached)),
+        in_calendar y m 1 other,
+        date.day_from_1,
+        date.day_to_last,
+      )
+
+  -- the same of years
+  pub next_year_least : (day : ℕ) → day_number year month number ≡ day → ((month ≡ 1) × (number ≡ 1) → ⊥) → year < 9999
+      → IsLeast (λ v. IsYearStart v × (midnight day ≤ℤ v)) (midnight (day_number (year + 1) 1 1))
+  next_year_least day is no_first within =
+      record {
+        has = ((year + 1, first_of_month (year + 1) 1 (omega arith) (omega arith) (omega arith) (omega arith), refl), omega (arith, ints, year_end year month number date, new_year, sum_up_to-next days_of_year year date.year_from_1));
+        least = λ w h. least_of w h.0 h.1;
+      }
+    where
+      least_of : (w : ℤ) → IsYearStart w → midnight day ≤ℤ w → midnight (day_number (year + 1) 1 1) ≤ℤ w
+      least_of w (y, other, start) reached = rw start (omega (arith, ints, later_year y other no_first (omega (arith, ints, rw start at reached))))
+
+  pub no_next_year : (day : ℕ) (v : ℤ) → day_number year month number ≡ day → ((month ≡ 1) × (number ≡ 1) → ⊥) → 9999 ≤ year → midnight day ≤ℤ v → IsYearStart v → ⊥
+  no_next_year day v is no_first last reached (y, other, start) =
+      omega (
+        arith,
+        later_year y other no_first (omega (arith, ints, rw start at reached)),
+        new_year,
+        other.year_to_9999,
+        sum_up_to-zero (days_of_month y),
+        sum_up_to-le days_of_year (y - 1) (year + 1 - 1) (omega (arith, other.year_to_9999)),
+        in_calendar y 1 1 other,
+        ends,
+      )
+    where
+      ends : year_start (year + 1) ≡ days_of_calendar
+      ends =
+          let end : 9999 ≡ year + 1 - 1 = omega (arith, date.year_to_9999) in
+          subst (λ n. sum_up_to days_of_year n ≡ days_of_calendar) end end_of_calendar
+
+  pub new_year_in_calendar : year < 9999 → day_number (year + 1) 1 1 < days_of_calendar
+  new_year_in_calendar within = in_calendar (year + 1) 1 1 (first_of_month (year + 1) 1 (omega arith) (omega arith) (omega arith) (omega arith))
+
+-- what begins from the first day on that isn't begun before a moment begins from that moment on
+pub month_start_reached : (day : ℕ) (from v : ℤ) → ((d : ℕ) → from ≤ℤ midnight d → day ≤ d) → from ≤ℤ v → IsMonthStart v → midnight day ≤ℤ v
+month_start_reached day from v least reached (year, month, date, start) =
+    rw start (omega (arith, ints, least (day_number year month 1) (rw start at reached)))
+
+pub year_start_reached : (day : ℕ) (from v : ℤ) → ((d : ℕ) → from ≤ℤ midnight d → day ≤ d) → from ≤ℤ v → IsYearStart v → midnight day ≤ℤ v
+year_start_reached day from v least reached (year, date, start) =
+    rw start (omega (arith, ints, least (day_number year 1 1) (rw start at reached)))
+
+-- a date that isn't the first of a year
+pub no_new_year : (month number : ℕ) → ((month ≡ 1) × (number ≡ 1 → ⊥)) ⊎ (month ≡ 1 → ⊥) → ((month ≡ 1) × (number ≡ 1)) → ⊥
+no_new_year month number (inl (january, later)) first = later first.1
+no_new_year month number (inr later) first = later first.0

@@ -1,0 +1,13 @@
+pub mod Iso8601
+pub mod Totals
+pub mod GregorianYears
+pub mod CivilDates
+pub mod WorkingDays
+pub mod Midnights
+pub mod NearMultiples
+pub mod PowersOfTen
+pub mod JiffDates
+pub mod LadderSteps
+pub mod Raised
+pub mod ShiftedSums
+pub mod DaysHaveDates

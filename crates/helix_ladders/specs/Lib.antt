@@ -1,0 +1,6 @@
+pub mod Calendar
+pub mod Grids
+pub mod Shift
+pub mod Scale
+pub mod LadderLaws
+pub mod Rising

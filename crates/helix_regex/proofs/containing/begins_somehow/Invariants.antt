@@ -1,6 +1,0 @@
-use Rattle.std.proofs.Common.{ℕ, ◌<◌, take}
-use Rattle.helix_regex.specs.Matching.{Matches}
-use Rattle.helix_regex.proofs.containing.begins_somehow.Given as goal
-
-abbrev pub invariant-loop-cut : goal.invariant-loop-cut
-invariant-loop-cut l = (k : ℕ) → k < l.cut → ¬ Matches l.expr (take k l.word)

@@ -1,6 +1,0 @@
-use Rattle.std.proofs.Common.{ℕ, ◌<◌, drop}
-use Rattle.helix_regex.specs.Matching.{BeginsMatch}
-use Rattle.helix_regex.proofs.containing.contains_somewhere.Given as goal
-
-abbrev pub invariant-loop-cut : goal.invariant-loop-cut
-invariant-loop-cut l = (k : ℕ) → k < l.cut → ¬ BeginsMatch l.expr l.at_end (drop k l.word)

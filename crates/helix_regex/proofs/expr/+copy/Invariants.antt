@@ -1,5 +1,0 @@
-use Rattle.std.proofs.Common.{◌≡◌, take}
-use Rattle.helix_regex.proofs.expr.+copy.Given as goal
-
-abbrev pub invariant-copy_exprs-loop-expr : goal.invariant-copy_exprs-loop-expr
-invariant-copy_exprs-loop-expr l = l.all ≡ take l.expr-index l.exprs

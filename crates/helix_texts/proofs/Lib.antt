@@ -1,0 +1,10 @@
+pub mod DecimalTexts
+pub mod FixedDigits
+pub mod NumberTexts
+pub mod MomentTexts
+pub mod TextLaws
+pub mod EndZeros
+pub mod ScalarTexts
+pub mod ReadMoments
+pub mod ReadTimes
+pub mod WrittenDigits

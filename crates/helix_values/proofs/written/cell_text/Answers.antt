@@ -1,8 +1,0 @@
-use Rattle.std.proofs.Common.{subst}
-use Rattle.helix_values.specs.Universe.{InUniverse}
-use Rattle.helix_values.specs.View.{cell_of}
-use Rattle.helix_values.proofs.ScalarTexts.{text_is_scalar}
-use Rattle.helix_values.proofs.written.cell_text.Goals as goal
-
-pub text_of_codes-requires : goal.text_of_codes-requires
-text_of_codes-requires c = text_is_scalar c.args.kind c.in-Text.codes.now (subst (λ v. InUniverse c.args.kind (cell_of v)) c.in-Text.is c.requires)
