@@ -1,11 +1,11 @@
 -- A disk and a console that tell nothing of their contents.
 use Rattle.std.specs.Prelude.{ℕ, false, [], Option, option_map}
 use Rattle.std.specs.FinMap.{empty}
-use Rattle.helix_outside.specs.Disk.{State}
+use Rattle.helix_outside.specs.Disk.{DiskState}
 use Rattle.helix_outside.specs.Console.{Screen}
 
 -- what is known: what is open, and the counts
-abbrev pub untold : {File : Type 0} → Option File → Option File → ℕ → ℕ → State
+abbrev pub untold : {File : Type 0} → Option File → Option File → ℕ → ℕ → DiskState
 untold input output read_faults write_faults = record {
   told = false;
   files = empty;

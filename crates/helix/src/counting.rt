@@ -1,4 +1,4 @@
-//! Counts of faults, which stand still at the last value of their type.
+//! Counts of faults, which stay at the last value of their type.
 
 ghost use Rattle.std.specs.Prelude.{◌≡◌, ◌+◌, ◌≤◌, min};
 ghost use Rattle.helix_outside.specs.Count.{last_count};

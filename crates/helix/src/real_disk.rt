@@ -1,7 +1,7 @@
 //! The files of the system as a disk.
 
 ghost use Rattle.std.specs.Prelude.{◌≡◌, ℕ, None};
-ghost use Rattle.helix_outside.specs.Disk.{State};
+ghost use Rattle.helix_outside.specs.Disk.{DiskState};
 ghost use Rattle.helix.specs.Untold.{untold};
 
 use crate::counting::fault;

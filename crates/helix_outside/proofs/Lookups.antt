@@ -133,7 +133,7 @@ place_kept entries place e d within names bytes =
     ∙ ap (set (map pair_of entries) place) pairs
     ∙ set-get_or (map pair_of entries) place (pair_of d))
 
--- bytes behind those of a file that is there
+-- bytes appended to those of a file that is there
 pub appended_found : (files : FileMap) (name bytes held : List ℕ) → get files name ≡ Some held → 0 < length bytes
     → appended files name bytes ≡ insert files name (held ++ bytes)
 appended_found files name [] held is some = absurd (omega arith)

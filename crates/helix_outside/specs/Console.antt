@@ -12,9 +12,10 @@ pub record Screen : Type 0 where
 abbrev pub line_text : List ℕ → List ℕ
 line_text bytes = bytes ++ 10 ∷ []
 
--- the line is added, and where the call fails a front part of it
+-- the line is added, and where the call fails a prefix of it
 pub record AddsLine {T E : Type 0} (old : Screen) (bytes : List ℕ) (result : Result T E) (new : Screen) : Type 0 where
   pub told : new.told ≡ old.told
   pub faults : Counts result false old.faults new.faults
   pub added : OnOk result (IsTrue old.told → new.text ≡ old.text ++ line_text bytes)
-  pub failed : OnErr result (IsTrue old.told → (n : ℕ) × (n ≤ length (line_text bytes)) × (new.text ≡ old.text ++ take n (line_text bytes)))
+  pub failed : OnErr result (IsTrue old.told → (n : ℕ) × (n ≤ length (line_text bytes))
+      × (new.text ≡ old.text ++ take n (line_text bytes)))

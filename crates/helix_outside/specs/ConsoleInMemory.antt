@@ -19,7 +19,8 @@ screen_of console = record { told = true; text = console.text; faults = console.
 abbrev pub blank : List ℕ → ConsoleInMemory
 blank failing = record { text = []; faults = 0; calls = 0; failing = failing }
 
--- every call has the next number and fails where it is listed; a call that fails adds nothing, and counts one fault at most
+-- every call has the next number and fails where it is listed; a call that fails adds nothing, and counts one fault at
+-- most
 pub record IsLine {T E : Type 0} (old : ConsoleInMemory) (result : Result T E) (new : ConsoleInMemory) : Type 0 where
   pub numbered : new.calls ≡ raised old.calls 1
   pub listed : new.failing ≡ old.failing

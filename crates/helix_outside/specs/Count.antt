@@ -1,11 +1,11 @@
--- Counts of faults. A count never falls, and stands still at its last value.
+-- Counts of faults. A count never falls, and stays at its last value.
 use Rattle.std.specs.Prelude.{◌≡◌, ℕ, ◌+◌, ◌≤◌, min, Bool, Result, OnOk, OnErr, MatchBool}
 
 -- the last value of a count, 2 ^ 64 - 1
 abbrev pub last_count : ℕ
 last_count = 0xFFFF_FFFF_FFFF_FFFF
 
--- the count rose: it is greater than before, or stands at its last value
+-- the count rose: it is greater than before, or is at its last value
 abbrev pub Rose : ℕ → ℕ → Type 0
 Rose old new = min (old + 1) last_count ≤ new
 

@@ -1,4 +1,4 @@
--- A counter of 64 bits, which stands still at its last value.
+-- A counter of 64 bits, which stays at its last value.
 use Rattle.std.specs.Prelude.{ℕ, ◌+◌, min}
 use Rattle.helix_outside.specs.Count.{last_count}
 

@@ -4,7 +4,7 @@ use Rattle.std.specs.FinMap.{get, insert}
 use Rattle.helix_outside.specs.Count.{Counts}
 use Rattle.helix_outside.specs.Files.{FileMap, appended}
 
-pub record State : Type 0 where
+pub record DiskState : Type 0 where
   -- whether the disk tells what its files hold
   pub told : Bool
   pub files : FileMap
@@ -16,19 +16,20 @@ pub record State : Type 0 where
   pub write_faults : ℕ
 
 -- the disk tells that there is no such file
-abbrev pub is_missing : State → List ℕ → Bool
+abbrev pub is_missing : DiskState → List ℕ → Bool
 is_missing disk name = disk.told && is_none (get disk.files name)
 
 -- the disk tells that there is such a file, and it is not to be replaced
-abbrev pub is_taken : State → List ℕ → Bool → Bool
+abbrev pub is_taken : DiskState → List ℕ → Bool → Bool
 is_taken disk name replace = disk.told && (not replace && is_some (get disk.files name))
 
--- the files with these bytes behind those of the open output
-abbrev pub written : State → List ℕ → FileMap
+-- the files with these bytes appended to those of the open output
+abbrev pub written : DiskState → List ℕ → FileMap
 written disk bytes = appended disk.files (unwrap_or disk.output []) bytes
 
 -- the named file is opened at its first byte, and an earlier input closed
-pub record BeginsRead {T E : Type 0} (old : State) (name : List ℕ) (result : Result T E) (new : State) : Type 0 where
+pub record BeginsRead {T E : Type 0} (old : DiskState) (name : List ℕ) (result : Result T E) (new : DiskState) : Type
+    0 where
   pub told : new.told ≡ old.told
   pub files : new.files ≡ old.files
   pub output : new.output ≡ old.output
@@ -38,8 +39,9 @@ pub record BeginsRead {T E : Type 0} (old : State) (name : List ℕ) (result : R
   pub whole : OnOk result (IsTrue old.told → new.input ≡ get old.files name)
   pub closed : OnErr result (new.input ≡ None)
 
--- a front part of the buffer is filled with the next bytes, and nothing is read only where nothing is left or no room is
-pub record Reads {E : Type 0} (old : State) (buffer : List ℕ) (result : Result ℕ E) (new : State) : Type 0 where
+-- a prefix of the buffer is filled with the next bytes, and nothing is read only where nothing is left or no room is
+pub record ReadsSome {E : Type 0} (old : DiskState) (buffer : List ℕ) (result : Result ℕ E) (new : DiskState) : Type
+    0 where
   pub told : new.told ≡ old.told
   pub files : new.files ≡ old.files
   pub output : new.output ≡ old.output
@@ -52,7 +54,8 @@ pub record Reads {E : Type 0} (old : State) (buffer : List ℕ) (result : Result
   pub failed : OnErr result (new.input ≡ old.input)
 
 -- an earlier input and an earlier output are closed; the named file is made empty and opened
-pub record BeginsWrite {T E : Type 0} (old : State) (name : List ℕ) (replace : Bool) (result : Result T E) (new : State) : Type 0 where
+pub record BeginsWrite {T E : Type 0} (old : DiskState) (name : List ℕ) (replace : Bool) (result : Result T E)
+    (new : DiskState) : Type 0 where
   pub told : new.told ≡ old.told
   pub read_faults : new.read_faults ≡ old.read_faults
   pub write_faults : Counts result (is_taken old name replace) old.write_faults new.write_faults
@@ -64,8 +67,9 @@ pub record BeginsWrite {T E : Type 0} (old : State) (name : List ℕ) (replace :
   pub closed : OnErr result (new.output ≡ None)
   pub failed : OnErr result (new.files ≡ old.files)
 
--- a front part of the bytes is appended to the open output; where there are any, at least one is
-pub record Writes {E : Type 0} (old : State) (bytes : List ℕ) (result : Result ℕ E) (new : State) : Type 0 where
+-- a prefix of the bytes is appended to the open output; where there are any, at least one is
+pub record WritesSome {E : Type 0} (old : DiskState) (bytes : List ℕ) (result : Result ℕ E) (new : DiskState) : Type
+    0 where
   pub told : new.told ≡ old.told
   pub read_faults : new.read_faults ≡ old.read_faults
   pub write_faults : Counts result false old.write_faults new.write_faults
@@ -77,7 +81,7 @@ pub record Writes {E : Type 0} (old : State) (bytes : List ℕ) (result : Result
   pub failed : OnErr result (IsTrue old.told → (n : ℕ) × (n ≤ length bytes) × (new.files ≡ written old (take n bytes)))
 
 -- the open output is closed and keeps its bytes
-pub record Finishes {T E : Type 0} (old : State) (result : Result T E) (new : State) : Type 0 where
+pub record Finishes {T E : Type 0} (old : DiskState) (result : Result T E) (new : DiskState) : Type 0 where
   pub told : new.told ≡ old.told
   pub files : new.files ≡ old.files
   pub read_faults : new.read_faults ≡ old.read_faults

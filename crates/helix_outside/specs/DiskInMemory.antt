@@ -4,7 +4,7 @@ use Rattle.std.specs.Coded.{Coded, code_by, coded×, coded_ℕ, coded_list, code
 use Rattle.std.specs.FinMap as map
 use Rattle.helix_outside.specs.Counting.{raised}
 use Rattle.helix_outside.specs.Files.{FileMap}
-use Rattle.helix_outside.specs.Disk.{State}
+use Rattle.helix_outside.specs.Disk.{DiskState}
 
 pub record DiskInMemory : Type 0 where
   pub files : FileMap
@@ -19,7 +19,7 @@ pub record DiskInMemory : Type 0 where
   pub failing : List ℕ
 
 -- a disk in memory tells its files
-abbrev pub state_of : DiskInMemory → State
+abbrev pub state_of : DiskInMemory → DiskState
 state_of disk = record {
   told = true;
   files = disk.files;
@@ -57,7 +57,18 @@ pub record IsCall {T E : Type 0} (old : DiskInMemory) (result : Result T E) (new
 abbrev pub disk_code : Coded DiskInMemory
 disk_code =
     code_by (FileMap × (Option (List ℕ) × (Option (List ℕ) × (ℕ × (ℕ × (ℕ × List ℕ))))))
-    (coded× (map.code (coded_list coded_ℕ) (coded_list coded_ℕ)) (coded× (coded_option (coded_list coded_ℕ)) (coded× (coded_option (coded_list coded_ℕ)) (coded× coded_ℕ (coded× coded_ℕ (coded× coded_ℕ (coded_list coded_ℕ)))))))
+    (coded× (map.code (coded_list coded_ℕ) (coded_list coded_ℕ))
+    (coded× (coded_option (coded_list coded_ℕ))
+    (coded× (coded_option (coded_list coded_ℕ))
+    (coded× coded_ℕ (coded× coded_ℕ (coded× coded_ℕ (coded_list coded_ℕ)))))))
     (λ d. (d.files, (d.input, (d.output, (d.read_faults, (d.write_faults, (d.calls, d.failing)))))))
-    (λ p. record { files = p.0; input = p.1.0; output = p.1.1.0; read_faults = p.1.1.1.0; write_faults = p.1.1.1.1.0; calls = p.1.1.1.1.1.0; failing = p.1.1.1.1.1.1 })
+    (λ p. record {
+      files = p.0;
+      input = p.1.0;
+      output = p.1.1.0;
+      read_faults = p.1.1.1.0;
+      write_faults = p.1.1.1.1.0;
+      calls = p.1.1.1.1.1.0;
+      failing = p.1.1.1.1.1.1;
+    })
     (λ _. refl)

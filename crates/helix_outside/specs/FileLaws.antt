@@ -64,18 +64,18 @@ insert_swap files a x b y apart =
 pub content_same : (files : FileMap) (name bytes : List ℕ) → content (insert files name bytes) name ≡ bytes
 content_same files name bytes = ap (λ o. unwrap_or o []) (get_same files name bytes)
 
--- bytes behind those of a file that was set
-pub appended-insert : (files : FileMap) (name front back : List ℕ)
-    → appended (insert files name front) name back ≡ insert files name (front ++ back)
-appended-insert files name front [] = ap (insert files name) (sym (append-nil front))
-appended-insert files name front (byte ∷ back) =
-    insert_again files name front (content (insert files name front) name ++ byte ∷ back)
-    ∙ ap (λ bytes. insert files name (bytes ++ byte ∷ back)) (content_same files name front)
+-- bytes appended to those of a file that was set
+pub appended-insert : (files : FileMap) (name prefix back : List ℕ)
+    → appended (insert files name prefix) name back ≡ insert files name (prefix ++ back)
+appended-insert files name prefix [] = ap (insert files name) (sym (append-nil prefix))
+appended-insert files name prefix (byte ∷ back) =
+    insert_again files name prefix (content (insert files name prefix) name ++ byte ∷ back)
+    ∙ ap (λ bytes. insert files name (bytes ++ byte ∷ back)) (content_same files name prefix)
 
 -- bytes are appended in pieces
-pub appended-appended : (files : FileMap) (name front back : List ℕ)
-    → appended (appended files name front) name back ≡ appended files name (front ++ back)
+pub appended-appended : (files : FileMap) (name prefix back : List ℕ)
+    → appended (appended files name prefix) name back ≡ appended files name (prefix ++ back)
 appended-appended files name [] back = refl
-appended-appended files name (byte ∷ front) back =
-    appended-insert files name (content files name ++ byte ∷ front) back
-    ∙ ap (insert files name) (append_assoc (content files name) (byte ∷ front) back)
+appended-appended files name (byte ∷ prefix) back =
+    appended-insert files name (content files name ++ byte ∷ prefix) back
+    ∙ ap (insert files name) (append_assoc (content files name) (byte ∷ prefix) back)

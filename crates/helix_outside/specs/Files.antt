@@ -11,7 +11,7 @@ FileMap = FinMap (slice_cmp nat_cmp) (List ℕ)
 abbrev pub content : FileMap → List ℕ → List ℕ
 content files name = unwrap_or (get files name) []
 
--- the files with these bytes behind those of one of them
+-- the files with these bytes appended to those of one of them
 abbrev pub appended : FileMap → List ℕ → List ℕ → FileMap
 appended files name [] = files
 appended files name (byte ∷ bytes) = insert files name (content files name ++ byte ∷ bytes)

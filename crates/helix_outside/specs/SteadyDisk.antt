@@ -3,7 +3,7 @@ use Rattle.std.specs.Prelude.{◌≡◌, ℕ, Bool, false, cond, List, [], Optio
 use Rattle.std.specs.Coded.{Coded, code_by, coded×, coded_ℕ, coded_bool, coded_list, coded_option}
 use Rattle.std.specs.FinMap as map
 use Rattle.helix_outside.specs.Files.{FileMap, content}
-use Rattle.helix_outside.specs.Disk.{State}
+use Rattle.helix_outside.specs.Disk.{DiskState}
 
 pub record Steady : Type 0 where
   -- what is read, and never changes
@@ -16,7 +16,7 @@ pub record Steady : Type 0 where
   pub written : ℕ
 
 -- a steady disk keeps nothing of what is written, so it does not tell its files
-abbrev pub steady_state : Steady → State
+abbrev pub steady_state : Steady → DiskState
 steady_state disk = record {
   told = false;
   files = disk.files;
@@ -35,7 +35,7 @@ abbrev pub reading : Steady → List ℕ → Steady
 reading disk name = record disk { input = Some (content disk.files name) }
 
 -- what every call does: it never fails, and what can be read stays
-pub record Passes {T E : Type 0} (old : Steady) (result : Result T E) (new : Steady) : Type 0 where
+pub record NeverFails {T E : Type 0} (old : Steady) (result : Result T E) (new : Steady) : Type 0 where
   pub never_fails : IsOk result
   pub files : new.files ≡ old.files
 
@@ -43,7 +43,8 @@ pub record Passes {T E : Type 0} (old : Steady) (result : Result T E) (new : Ste
 abbrev pub steady_code : Coded Steady
 steady_code =
     code_by (FileMap × (Option (List ℕ) × (Bool × ℕ)))
-    (coded× (map.code (coded_list coded_ℕ) (coded_list coded_ℕ)) (coded× (coded_option (coded_list coded_ℕ)) (coded× coded_bool coded_ℕ)))
+    (coded× (map.code (coded_list coded_ℕ) (coded_list coded_ℕ))
+    (coded× (coded_option (coded_list coded_ℕ)) (coded× coded_bool coded_ℕ)))
     (λ d. (d.files, (d.input, (d.writing, d.written))))
     (λ p. record { files = p.0; input = p.1.0; writing = p.1.1.0; written = p.1.1.1 })
     (λ _. refl)

@@ -1,7 +1,7 @@
 //! A disk: files that are read and written in pieces.
 
 ghost use Rattle.std.specs.Prelude.{IsSome};
-ghost use Rattle.helix_outside.specs.Disk.{State, BeginsRead, Reads, BeginsWrite, Writes, Finishes};
+ghost use Rattle.helix_outside.specs.Disk.{DiskState, BeginsRead, ReadsSome, BeginsWrite, WritesSome, Finishes};
 
 use std::error::Error;
 use std::fmt;
@@ -24,27 +24,27 @@ impl Error for Failed {}
 /// writing.
 pub trait Disk {
     /// What is known of the disk.
-    ghost state: { Self → State };
+    ghost state: { Self → DiskState };
 
     /// Opens a file at its first byte, and closes an earlier input.
     fn begin_read(&mut self, name: &str) -> Result<(), Failed>
         ensures { BeginsRead (state self.old) name.now result (state self.new) };
 
-    /// Fills a front part of `buffer` with the next bytes of the open input, and answers their number:
+    /// Fills a prefix of `buffer` with the next bytes of the open input, and answers their number:
     /// 0 where the input is at its end.
     fn read(&mut self, buffer: &mut [u8]) -> Result<usize, Failed>
         requires { IsSome (state self.old).input }
-        ensures { Reads (state self.old) buffer.new result (state self.new) };
+        ensures { ReadsSome (state self.old) buffer.new result (state self.new) };
 
     /// Makes a file empty and opens it, and closes an earlier input and an earlier output. Without `replace`
     /// a file that is there is left as it is.
     fn begin_write(&mut self, name: &str, replace: bool) -> Result<(), Failed>
         ensures { BeginsWrite (state self.old) name.now replace result (state self.new) };
 
-    /// Appends a front part of `bytes` to the open output, and answers its length.
+    /// Appends a prefix of `bytes` to the open output, and answers its length.
     fn write(&mut self, bytes: &[u8]) -> Result<usize, Failed>
         requires { IsSome (state self.old).output }
-        ensures { Writes (state self.old) bytes.now result (state self.new) };
+        ensures { WritesSome (state self.old) bytes.now result (state self.new) };
 
     /// Closes the open output.
     fn finish(&mut self) -> Result<(), Failed>

@@ -83,7 +83,7 @@ pub(crate) fn set(entries: &mut Vec<Entry>, name: &[u8], bytes: Vec<u8>) -> Resu
     }
 }
 
-/// Adds bytes behind those of one name, and a file where there is none.
+/// Appends bytes to those of one name, and a file where there is none.
 pub(crate) fn append(entries: &mut Vec<Entry>, name: &[u8], bytes: &[u8]) -> Result<(), Memory>
     ensures ok { OnOk result (files_of entries.new.items ≡ appended (files_of entries.old.items) name.now bytes.now) }
     ensures err { OnErr result (files_of entries.new.items ≡ files_of entries.old.items) }

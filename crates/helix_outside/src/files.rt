@@ -65,7 +65,7 @@ impl Files {
         entries::bytes_of(self.entries.as_slice(), name)
     }
 
-    /// Adds bytes behind those of one name.
+    /// Appends bytes to those of one name.
     pub(crate) fn append(&mut self, name: &[u8], bytes: &[u8]) -> Result<(), Memory>
         ensures ok { OnOk result (self.new ≡ appended self.old name.now bytes.now) }
         ensures err { OnErr result (self.new ≡ self.old) }

@@ -31,7 +31,7 @@ impl Input {
         })
     }
 
-    /// Fills a front part of `buffer`, all of it where as many bytes are left, and answers its length.
+    /// Fills a prefix of `buffer`, all of it where as many bytes are left, and answers its length.
     pub(crate) fn read(&mut self, buffer: &mut [u8]) -> usize
         ensures count { result ≡ min (length buffer.old) (length self.old) }
         ensures given { self.old ≡ take result buffer.new ++ self.new }
@@ -41,7 +41,7 @@ impl Input {
     }
 }
 
-/// Reads on in `bytes`, from `position` on: fills a front part of `buffer`, all of it where as many bytes are
+/// Reads on in `bytes`, from `position` on: fills a prefix of `buffer`, all of it where as many bytes are
 /// left, and answers its length.
 pub(crate) fn read_on(bytes: &[u8], position: &mut usize, buffer: &mut [u8]) -> usize
     ensures count { result ≡ min (length buffer.old) (length (drop position.old bytes.now)) }
@@ -54,7 +54,7 @@ pub(crate) fn read_on(bytes: &[u8], position: &mut usize, buffer: &mut [u8]) -> 
     count
 }
 
-/// Copies the front of `bytes` to the front of `buffer`, as much as both have.
+/// Copies the start of `bytes` to the start of `buffer`, as much as both have.
 fn fill(bytes: &[u8], buffer: &mut [u8]) -> usize
     ensures count { result ≡ min (length buffer.old) (length bytes.now) }
     ensures given { take result buffer.new ≡ take result bytes.now }

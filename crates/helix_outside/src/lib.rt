@@ -1,7 +1,7 @@
-//! The outside of a run: a disk and a console, as two traits, with implementations for tests.
+//! The environment of a run: a disk and a console, as two traits, with implementations for tests.
 //!
-//! The meaning of every call, what a failure leaves and what it counts, stands in `specs/Disk.antt`,
-//! `specs/Console.antt` and `specs/Count.antt`; files stand in `specs/Files.antt`.
+//! The meaning of every call, what a failure leaves and what it counts, is in `specs/Disk.antt`,
+//! `specs/Console.antt` and `specs/Count.antt`; files are in `specs/Files.antt`.
 #![tactic(auto)]
 
 mod calls;

@@ -3,7 +3,7 @@
 ghost use Rattle.std.specs.Prelude.{◌≡◌, ◌↔◌, [], None, min, length, drop, IsSome, IsErr, IsTrue};
 ghost use Rattle.std.specs.Prelude.{OnOk, OnErr, IfOk, MatchResult, unwrap_or, option_copied};
 ghost use Rattle.std.specs.FinMap.{get, insert};
-ghost use Rattle.helix_outside.specs.Disk.{BeginsRead, Reads, BeginsWrite, Writes, Finishes};
+ghost use Rattle.helix_outside.specs.Disk.{BeginsRead, ReadsSome, BeginsWrite, WritesSome, Finishes};
 ghost use Rattle.helix_outside.specs.DiskInMemory.{state_of, opened, IsCall, IsDue};
 
 use crate::calls::Calls;
@@ -112,11 +112,12 @@ impl Disk for MemoryDisk {
 
     fn read(&mut self, buffer: &mut [u8]) -> Result<usize, Failed>
         requires { IsSome self.old.input }
-        ensures meaning { Reads (state_of self.old) buffer.new result (state_of self.new) }
+        ensures meaning { ReadsSome (state_of self.old) buffer.new result (state_of self.new) }
         ensures call { IsCall self.old result self.new }
         ensures due { IsErr result ↔ IsDue self.old }
         ensures count { IfOk result (λ n. n ≡ min (length buffer.old) (length (unwrap_or self.old.input []))) }
-        ensures others { MatchResult result (λ n. drop n buffer.new ≡ drop n buffer.old) (λ _. buffer.new ≡ buffer.old) }
+        ensures others { MatchResult result (λ n. drop n buffer.new ≡ drop n buffer.old)
+            (λ _. buffer.new ≡ buffer.old) }
     {
         if next_call(self.failing.as_slice(), &mut self.calls) {
             return Err(fault(&mut self.read_faults));
@@ -147,7 +148,7 @@ impl Disk for MemoryDisk {
 
     fn write(&mut self, bytes: &[u8]) -> Result<usize, Failed>
         requires { IsSome self.old.output }
-        ensures meaning { Writes (state_of self.old) bytes.now result (state_of self.new) }
+        ensures meaning { WritesSome (state_of self.old) bytes.now result (state_of self.new) }
         ensures call { IsCall self.old result self.new }
         ensures whole { IfOk result (λ n. n ≡ length bytes.now) }
         ensures none { OnErr result (self.new.files ≡ self.old.files) }

@@ -2,8 +2,8 @@
 
 ghost use Rattle.std.specs.Prelude.{◌≡◌, ◌++◌, [], Some, length, min, take, drop, IsSome, IfOk, unwrap_or};
 ghost use Rattle.helix_outside.specs.Counting.{raised};
-ghost use Rattle.helix_outside.specs.Disk.{BeginsRead, Reads, BeginsWrite, Writes, Finishes};
-ghost use Rattle.helix_outside.specs.SteadyDisk.{steady_state, steady, reading, Passes};
+ghost use Rattle.helix_outside.specs.Disk.{BeginsRead, ReadsSome, BeginsWrite, WritesSome, Finishes};
+ghost use Rattle.helix_outside.specs.SteadyDisk.{steady_state, steady, reading, NeverFails};
 
 use crate::disk::{Disk, Failed};
 use crate::entries;
@@ -60,7 +60,7 @@ impl SteadyDisk {
         }
     }
 
-    /// How many bytes were written. The count stands still at 2^64 - 1.
+    /// How many bytes were written. The count stays at 2^64 - 1.
     pub fn written(&self) -> u64
         ensures { result ≡ self.now.written }
     {
@@ -73,7 +73,7 @@ impl Disk for SteadyDisk {
 
     fn begin_read(&mut self, name: &str) -> Result<(), Failed>
         ensures meaning { BeginsRead (steady_state self.old) name.now result (steady_state self.new) }
-        ensures passes { Passes self.old result self.new }
+        ensures passes { NeverFails self.old result self.new }
         ensures whole { self.new ≡ reading self.old name.now }
     {
         let place = entries::place_or_end(self.entries.as_slice(), name.as_bytes());
@@ -83,8 +83,8 @@ impl Disk for SteadyDisk {
 
     fn read(&mut self, buffer: &mut [u8]) -> Result<usize, Failed>
         requires { IsSome self.old.input }
-        ensures meaning { Reads (steady_state self.old) buffer.new result (steady_state self.new) }
-        ensures passes { Passes self.old result self.new }
+        ensures meaning { ReadsSome (steady_state self.old) buffer.new result (steady_state self.new) }
+        ensures passes { NeverFails self.old result self.new }
         ensures count { IfOk result (λ n. n ≡ min (length buffer.old) (length (unwrap_or self.old.input []))) }
         ensures given { IfOk result (λ n. self.old.input ≡ Some (take n buffer.new ++ unwrap_or self.new.input [])) }
         ensures others { IfOk result (λ n. drop n buffer.new ≡ drop n buffer.old) }
@@ -101,7 +101,7 @@ impl Disk for SteadyDisk {
 
     fn begin_write(&mut self, name: &str, replace: bool) -> Result<(), Failed>
         ensures meaning { BeginsWrite (steady_state self.old) name.now replace result (steady_state self.new) }
-        ensures passes { Passes self.old result self.new }
+        ensures passes { NeverFails self.old result self.new }
         ensures written { self.new.written ≡ self.old.written }
     {
         self.input = None;
@@ -111,8 +111,8 @@ impl Disk for SteadyDisk {
 
     fn write(&mut self, bytes: &[u8]) -> Result<usize, Failed>
         requires { IsSome (steady_state self.old).output }
-        ensures meaning { Writes (steady_state self.old) bytes.now result (steady_state self.new) }
-        ensures passes { Passes self.old result self.new }
+        ensures meaning { WritesSome (steady_state self.old) bytes.now result (steady_state self.new) }
+        ensures passes { NeverFails self.old result self.new }
         ensures whole { IfOk result (λ n. n ≡ length bytes.now) }
         ensures written { self.new.written ≡ raised self.old.written (length bytes.now) }
     {
@@ -123,7 +123,7 @@ impl Disk for SteadyDisk {
     fn finish(&mut self) -> Result<(), Failed>
         requires { IsSome (steady_state self.old).output }
         ensures meaning { Finishes (steady_state self.old) result (steady_state self.new) }
-        ensures passes { Passes self.old result self.new }
+        ensures passes { NeverFails self.old result self.new }
         ensures written { self.new.written ≡ self.old.written }
     {
         self.writing = false;

@@ -5,15 +5,18 @@ use Rattle.std.specs.Prelude.{Result, Ok, Err, IsErr, unwrap_or}
 use Rattle.helix_outside.specs.Count.{Rose}
 use Rattle.helix_outside.specs.Files.{FileMap, appended}
 use Rattle.helix_outside.specs.FileLaws.{appended-appended}
-use Rattle.helix_outside.specs.Disk.{State, Writes, written}
-use Rattle.helix_run.specs.Writing.{HasPut, PutsAll}
+use Rattle.helix_outside.specs.Disk.{DiskState, WritesSome, written}
+use Rattle.helix_run.specs.Inner.Writing.{HasPut, PutsAll}
 
-pub HasPut-start : (old : State) (bytes : List ℕ) → HasPut old bytes 0 old
-HasPut-start old bytes = record { told = refl; read_faults = refl; write_faults = refl; output = refl; within = omega arith; files = λ t. refl }
+pub HasPut-start : (old : DiskState) (bytes : List ℕ) → HasPut old bytes 0 old
+HasPut-start old bytes =
+    record { told = refl; read_faults = refl; write_faults = refl; output = refl; within = omega arith;
+    files = λ t. refl }
 
 -- what a piece more leaves
-files_further : (old now : State) (bytes : List ℕ) (done n : ℕ) (files : FileMap)
-    → now.output ≡ old.output → now.files ≡ written old (take done bytes) → files ≡ written now (take n (drop done bytes))
+files_further : (old now : DiskState) (bytes : List ℕ) (done n : ℕ) (files : FileMap)
+    → now.output ≡ old.output → now.files ≡ written old (take done bytes)
+    → files ≡ written now (take n (drop done bytes))
     → files ≡ written old (take (done + n) bytes)
 files_further old now bytes done n files output so_far more =
     more
@@ -26,7 +29,8 @@ files_further old now bytes done n files output so_far more =
 pub rest_of : (bytes : List ℕ) (done : ℕ) → take (length bytes - done) (drop done bytes) ≡ drop done bytes
 rest_of bytes done = take_all (length bytes - done) (drop done bytes) (omega (arith, length-drop done bytes))
 
-module _ (old now next : State) (bytes rest : List ℕ) (done : ℕ) (so_far : HasPut old bytes done now) (left : rest ≡ drop done bytes) where
+module _ (old now next : DiskState) (bytes rest : List ℕ) (done : ℕ) (so_far : HasPut old bytes done now)
+    (left : rest ≡ drop done bytes) where
   pub HasPut-step : {E : Type 0} (n : ℕ) → Writes {E = E} now rest (Ok n) next → HasPut old bytes (done + n) next
   HasPut-step n call = record {
     told = call.told ∙ so_far.told;
@@ -39,7 +43,8 @@ module _ (old now next : State) (bytes rest : List ℕ) (done : ℕ) (so_far : H
         (call.appended (so_far.told ∙ told) ∙ ap (λ r. written now (take n r)) left);
   }
 
-  pub PutsAll-failed : {T E F : Type 0} (e : E) (result : Result T F) → IsErr result → Writes {E = E} now rest (Err e) next → PutsAll old bytes result next
+  pub PutsAll-failed : {T E F : Type 0} (e : E) (result : Result T F) → IsErr result
+      → Writes {E = E} now rest (Err e) next → PutsAll old bytes result next
   PutsAll-failed e (Ok x) is call = absurd (cc)
   PutsAll-failed e (Err f) is call = record {
     told = call.told ∙ so_far.told;
@@ -52,7 +57,8 @@ module _ (old now next : State) (bytes rest : List ℕ) (done : ℕ) (so_far : H
     };
     all = tt;
     part = λ told.
-        let failed : (n : ℕ) × (n ≤ length rest) × (next.files ≡ written now (take n rest)) = call.failed (so_far.told ∙ told) in (
+        let failed : (n : ℕ) × (n ≤ length rest)
+            × (next.files ≡ written now (take n rest)) = call.failed (so_far.told ∙ told) in (
           done + failed.0,
           omega (arith, length-drop done bytes, ap length left, failed.1),
           files_further old now bytes done failed.0 next.files so_far.output (so_far.files told)

@@ -5,35 +5,39 @@ use Rattle.std.specs.FinMap.{get, insert}
 use Rattle.helix_outside.specs.Count.{Rose}
 use Rattle.helix_outside.specs.Files.{FileMap, appended}
 use Rattle.helix_outside.specs.FileLaws.{appended-insert}
-use Rattle.helix_outside.specs.Disk.{State, BeginsWrite, Finishes, is_taken, written}
-use Rattle.helix_run.specs.Writing.{PutsAll, WritesFile}
+use Rattle.helix_outside.specs.Disk.{DiskState, BeginsWrite, Finishes, is_taken, written}
+use Rattle.helix_run.specs.Inner.Writing.{PutsAll, WritesFile}
 
 false_from : (b : Bool) → (b ≡ true → ⊥) → b ≡ false
 false_from true h = absurd (h refl)
 false_from false h = refl
 
 -- where nothing is taken, a disk that tells has no such file
-absent : {X : Type 0} (told : Bool) (file : Option X) → (told && (true && is_some file)) ≡ false → told ≡ true → file ≡ None
+absent : {X : Type 0} (told : Bool) (file : Option X) → (told && (true && is_some file)) ≡ false → told ≡ true
+    → file ≡ None
 absent true None free is = refl
 absent true (Some x) free is = absurd (cc)
 absent false file free is = absurd (cc)
 
-module _ {T E : Type 0} (old begun : State) (name text : List ℕ) (x : T) (call : BeginsWrite {E = E} old name false (Ok x) begun) where
+module _ {T E : Type 0} (old begun : DiskState) (name text : List ℕ) (x : T)
+    (call : BeginsWrite {E = E} old name false (Ok x) begun) where
   free : is_taken old name false ≡ false
   free = false_from _ (λ t. let h : IsErr {T = T} {E = E} (Ok x) = call.taken t in cc)
 
   pub was_absent : IsTrue old.told → get old.files name ≡ None
   was_absent told = absent old.told (get old.files name) free told
 
-  -- what stands in the file once a front part is put
-  files_after : (now : FileMap) (part : List ℕ) → IsTrue old.told → now ≡ written begun part → now ≡ insert old.files name part
+  -- what stands in the file once a prefix is put
+  files_after : (now : FileMap) (part : List ℕ) → IsTrue old.told → now ≡ written begun part
+      → now ≡ insert old.files name part
   files_after now part told e =
       e
       ∙ ap (λ o. appended begun.files (unwrap_or o []) part) (call.named told)
       ∙ ap (λ f. appended f name part) (call.emptied told)
       ∙ appended-insert old.files name [] part
 
-  pub put_failed : {U F V W : Type 0} (put : State) (e : W) (result : Result U F) → IsErr result → PutsAll {T = V} begun text (Err e) put → WritesFile old name text result put
+  pub put_failed : {U F V W : Type 0} (put : DiskState) (e : W) (result : Result U F) → IsErr result
+      → PutsAll {T = V} begun text (Err e) put → WritesFile old name text result put
   put_failed put e (Ok y) is puts = absurd (cc)
   put_failed put e (Err f) is puts = record {
     told = puts.told ∙ call.told;
@@ -41,22 +45,27 @@ module _ {T E : Type 0} (old begun : State) (name text : List ℕ) (x : T) (call
     write_faults = record {
       grows = omega (arith, puts.write_faults.grows, call.write_faults.ok);
       ok = tt;
-      failed = subst (λ b. MatchBool b (put.write_faults ≡ old.write_faults) (Rose old.write_faults put.write_faults)) (sym free)
+      failed = subst (λ b. MatchBool b (put.write_faults ≡ old.write_faults) (Rose old.write_faults put.write_faults))
+          (sym free)
           (subst (λ n. Rose n put.write_faults) call.write_faults.ok puts.write_faults.failed);
     };
     was_absent = tt;
     whole = tt;
     taken = λ t. absurd (cc (free, t));
     part = λ told.
-        let part : (n : ℕ) × (n ≤ length text) × (put.files ≡ written begun (take n text)) = puts.part (call.told ∙ told) in
+        let part : (n : ℕ) × (n ≤ length text)
+            × (put.files ≡ written begun (take n text)) = puts.part (call.told ∙ told) in
         inr (part.0, part.1, files_after put.files (take part.0 text) told part.2);
   }
 
-  pub finished : {U F V W : Type 0} (put done : State) (y : V) (result : Result U F) → PutsAll {E = W} begun text (Ok y) put → Finishes put result done → WritesFile old name text result done
+  pub finished : {U F V W : Type 0} (put done : DiskState) (y : V) (result : Result U F)
+      → PutsAll {E = W} begun text (Ok y) put → Finishes put result done → WritesFile old name text result done
   finished put done y (Ok z) puts end = record {
     told = end.told ∙ puts.told ∙ call.told;
     read_faults = end.read_faults ∙ puts.read_faults ∙ call.read_faults;
-    write_faults = record { grows = omega (arith, end.write_faults.grows, puts.write_faults.grows, call.write_faults.grows); ok = end.write_faults.ok ∙ puts.write_faults.ok ∙ call.write_faults.ok; failed = tt };
+    write_faults = record { grows =
+        omega (arith, end.write_faults.grows, puts.write_faults.grows, call.write_faults.grows);
+        ok = end.write_faults.ok ∙ puts.write_faults.ok ∙ call.write_faults.ok; failed = tt };
     was_absent = was_absent;
     whole = λ told. end.files ∙ files_after put.files text told (puts.all (call.told ∙ told));
     taken = λ t. absurd (cc (free, t));
@@ -68,7 +77,8 @@ module _ {T E : Type 0} (old begun : State) (name text : List ℕ) (x : T) (call
     write_faults = record {
       grows = omega (arith, end.write_faults.grows, puts.write_faults.grows, call.write_faults.grows);
       ok = tt;
-      failed = subst (λ b. MatchBool b (done.write_faults ≡ old.write_faults) (Rose old.write_faults done.write_faults)) (sym free)
+      failed = subst (λ b. MatchBool b (done.write_faults ≡ old.write_faults) (Rose old.write_faults done.write_faults))
+          (sym free)
           (subst (λ n. Rose n done.write_faults) (puts.write_faults.ok ∙ call.write_faults.ok) end.write_faults.failed);
     };
     was_absent = tt;
@@ -77,6 +87,7 @@ module _ {T E : Type 0} (old begun : State) (name text : List ℕ) (x : T) (call
     part = λ told. inr (
       length text,
       omega arith,
-      end.files ∙ files_after put.files text told (puts.all (call.told ∙ told)) ∙ ap (insert old.files name) (sym (take_all (length text) text (omega arith))),
+      end.files ∙ files_after put.files text told (puts.all (call.told ∙ told))
+          ∙ ap (insert old.files name) (sym (take_all (length text) text (omega arith))),
     );
   }

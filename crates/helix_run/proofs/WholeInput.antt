@@ -2,18 +2,20 @@
 use Rattle.std.proofs.Common.{◌≡◌, ℕ, ◌≤◌, List, [], ◌++◌, length, take_all, sym, ◌∙◌, ap, append-nil}
 use Rattle.std.proofs.lemmas.List.{take_at}
 use Rattle.std.specs.Prelude.{Some, IsTrue, unwrap_or}
-use Rattle.helix_outside.specs.Disk.{State}
-use Rattle.helix_run.specs.Reading.{HasRead, AreRead}
+use Rattle.helix_outside.specs.Disk.{DiskState}
+use Rattle.helix_run.specs.Inner.Reading.{HasRead, AreRead}
 
-module _ (old now : State) (name bytes : List ℕ) (read : HasRead old name now bytes) where
+module _ (old now : DiskState) (name bytes : List ℕ) (read : HasRead old name now bytes) where
   -- nothing is left
   pub AreRead-ended : length bytes ≤ 1048577 → (IsTrue now.told → now.input ≡ Some []) → AreRead old name bytes
   AreRead-ended within ended told = (
     bytes,
-    read.whole told ∙ ap (λ o. Some (bytes ++ unwrap_or o [])) (ended (read.only_reads.told ∙ told)) ∙ ap Some (append-nil bytes),
+    read.whole told ∙ ap (λ o. Some (bytes ++ unwrap_or o [])) (ended (read.only_reads.told ∙ told))
+        ∙ ap Some (append-nil bytes),
     sym (take_all 1048577 bytes within),
   )
 
   -- the limit is reached
   pub AreRead-full : length bytes ≡ 1048577 → AreRead old name bytes
-  AreRead-full full told = (bytes ++ unwrap_or now.input [], read.whole told, sym (take_at bytes (unwrap_or now.input []) 1048577 full))
+  AreRead-full full told =
+      (bytes ++ unwrap_or now.input [], read.whole told, sym (take_at bytes (unwrap_or now.input []) 1048577 full))

@@ -7,7 +7,7 @@ use Rattle.helix_run.specs.declared.status.Status.{Status}
 use Rattle.helix_run.specs.declared.status.Status.TheVariants.{Done, Usage, ReadFault, WriteFault, ProfileRefused, WantOfMemory}
 use Rattle.helix_run.specs.Words.{Names}
 use Rattle.helix_run.specs.Profile.{Field}
-use Rattle.helix_run.specs.Rows.{Cell, IsAnswer}
+use Rattle.helix_run.specs.Rows.{Flag, IsFlagAnswer}
 use Rattle.helix_run.specs.Output.{csv_text}
 use Rattle.helix_run.specs.Lines.{usage_line, refused_line, read_fault_line, write_fault_line, memory_line, done_line}
 use Rattle.helix_run.specs.Script.{HasField}
@@ -16,9 +16,9 @@ use Rattle.helix_run.specs.Script.{HasField}
 pub record HasText (words : List (List ℕ)) (files : FileMap) (output text : List ℕ) : Type 0 where
   pub names : Names
   pub field : Field
-  pub rows : List (List Cell)
+  pub rows : List (List Flag)
   pub has : HasField words files names field
-  pub answer : IsAnswer field rows
+  pub answer : IsFlagAnswer field rows
   pub absent : get files names.output ≡ None
   pub output_is : output ≡ names.output
   pub text_is : text ≡ csv_text field.name rows
@@ -30,8 +30,8 @@ pub record HoldsWhole (words : List (List ℕ)) (old new : FileMap) : Type 0 whe
   pub has : HasText words old output text
   pub holds : new ≡ insert old output text
 
--- the output holds a front part of its text, and no other file is touched
-pub record HoldsFront (words : List (List ℕ)) (old new : FileMap) : Type 0 where
+-- the output holds a prefix of its text, and no other file is touched
+pub record HoldsPrefix (words : List (List ℕ)) (old new : FileMap) : Type 0 where
   pub output : List ℕ
   pub text : List ℕ
   pub size : ℕ
@@ -45,7 +45,7 @@ Left words old Usage new = new ≡ old
 Left words old ReadFault new = new ≡ old
 Left words old ProfileRefused new = new ≡ old
 Left words old WantOfMemory new = new ≡ old
-Left words old WriteFault new = (new ≡ old) ⊎ HoldsFront words old new
+Left words old WriteFault new = (new ≡ old) ⊎ HoldsPrefix words old new
 Left words old Done new = HoldsWhole words old new
 Left words old _ new = ⊥
 

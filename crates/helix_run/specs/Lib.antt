@@ -1,14 +1,12 @@
+-- what public clauses rest on, in reading order
 pub mod Words
 pub mod Profile
 pub mod Rows
 pub mod Output
 pub mod Lines
 pub mod Script
-pub mod Outside
+pub mod Environment
 pub mod Causes
 pub mod Left
-pub mod Reading
-pub mod Writing
-pub mod Pattern
-pub mod Name
-pub mod Outcome
+-- what only private clauses cite
+pub mod Inner

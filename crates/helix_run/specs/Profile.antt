@@ -11,21 +11,21 @@ pub record Field : Type 0 where
   pub nullable : Bool
 
 -- space, tab, line feed and carriage return (RFC 8259, section 2)
-abbrev pub is_blank : ℕ → Bool
-is_blank byte = (byte == 32 || byte == 9) || (byte == 10 || byte == 13)
+abbrev pub is_space : ℕ → Bool
+is_space byte = (byte == 32 || byte == 9) || (byte == 10 || byte == 13)
 
--- the bytes are written as the pattern says, in which a space stands for any blanks, and then comes the rest
+-- the bytes are written as the pattern says, in which a space means any blanks, and then comes the rest
 abbrev pub Follows : List ℕ → List ℕ → List ℕ → Type 0
 Follows [] bytes rest = bytes ≡ rest
 Follows (expected ∷ pattern) bytes rest = MatchBool (expected == 32)
-    ((blanks next : List ℕ) × IsTrue (list_all is_blank blanks) × (bytes ≡ blanks ++ next) × Follows pattern next rest)
+    ((blanks next : List ℕ) × IsTrue (list_all is_space blanks) × (bytes ≡ blanks ++ next) × Follows pattern next rest)
     ((next : List ℕ) × (bytes ≡ expected ∷ next) × Follows pattern next rest)
 
--- what stands before the field's name
+-- what comes before the field's name
 abbrev pub opening : List ℕ
 opening = codes " { \"fields\" : [ { \"name\" : "
 
--- what stands behind it, where `nullable` is left out or written
+-- what comes after it, where `nullable` is left out or written
 abbrev pub closing : Option Bool → List ℕ
 closing None = codes " , \"type\" : \"boolean\" } ] , \"constraints\" : [ ] } "
 closing (Some true) = codes " , \"type\" : \"boolean\" , \"nullable\" : true } ] , \"constraints\" : [ ] } "
@@ -36,7 +36,7 @@ abbrev pub is_name_character : ℕ → Bool
 is_name_character byte = (nat_le 32 byte && nat_le byte 126) && not (byte == 34 || byte == 92)
 
 -- 1 to 200 such characters
-pub record IsName (name : List ℕ) : Type 0 where
+pub record IsFlagName (name : List ℕ) : Type 0 where
   pub some : 1 ≤ length name
   pub short : length name ≤ 200
   pub characters : IsTrue (list_all is_name_character name)
@@ -45,7 +45,7 @@ pub record IsName (name : List ℕ) : Type 0 where
 abbrev pub quoted_before : List ℕ → List ℕ → List ℕ
 quoted_before name rest = 34 ∷ (name ++ 34 ∷ rest)
 
--- what stands behind the name says whether the field is nullable, which it is where nothing is said
+-- what comes after the name says whether the field is nullable, which it is where nothing is said
 pub record Closes (bytes : List ℕ) (nullable : Bool) : Type 0 where
   pub written : Option Bool
   pub says : nullable ≡ unwrap_or written true
@@ -54,7 +54,7 @@ pub record Closes (bytes : List ℕ) (nullable : Bool) : Type 0 where
 -- the bytes of a profile file say that there is this field
 pub record ReadsProfile (bytes : List ℕ) (field : Field) : Type 0 where
   pub size : length bytes ≤ longest_profile
-  pub name : IsName field.name
+  pub name : IsFlagName field.name
   pub rest : List ℕ
   pub opens : Follows opening bytes (quoted_before field.name rest)
   pub closes : Closes rest field.nullable

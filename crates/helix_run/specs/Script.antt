@@ -1,4 +1,4 @@
--- What a run does where nothing of the outside fails: its status, the files that it leaves, and what it shows.
+-- What a run does where neither disk nor console fails: its status, the files that it leaves, and what it shows.
 use Rattle.std.specs.Prelude.{◌≡◌, ℕ, List, length, Some, None, IsSome}
 use Rattle.std.specs.FinMap.{get, insert}
 use Rattle.helix_outside.specs.Files.{FileMap}
@@ -7,7 +7,7 @@ use Rattle.helix_run.specs.declared.status.Status.{Status}
 use Rattle.helix_run.specs.declared.status.Status.TheVariants.{Usage, ReadFault, WriteFault, ProfileRefused, Done}
 use Rattle.helix_run.specs.Words.{Names, order_of}
 use Rattle.helix_run.specs.Profile.{Field, ReadsProfile, IsRefused}
-use Rattle.helix_run.specs.Rows.{Cell, IsAnswer}
+use Rattle.helix_run.specs.Rows.{Flag, IsFlagAnswer}
 use Rattle.helix_run.specs.Output.{csv_text}
 use Rattle.helix_run.specs.Lines.{usage_line, refused_line, read_fault_line, write_fault_line, done_line}
 
@@ -23,15 +23,18 @@ pub record HasField (words : List (List ℕ)) (files : FileMap) (names : Names) 
   pub reads : ReadsProfile bytes field
 
 -- how a run ends: with a status, the files that it leaves, and one line
-pub record Ends (status : Status) (after : FileMap) (text : List ℕ) (answer : Status) (left : FileMap) (line : List ℕ) : Type 0 where
+pub record Ends (status : Status) (after : FileMap) (text : List ℕ) (answer : Status) (left : FileMap) (line : List ℕ) :
+    Type 0 where
   pub status_is : status ≡ answer
   pub files_are : after ≡ left
   pub text_is : text ≡ line_text line
 
 -- the words and the files at entry lead to this status, these files after and this text on the console
-pub data Script (words : List (List ℕ)) (files : FileMap) (status : Status) (after : FileMap) (text : List ℕ) : Type 0 where
+pub data Script (words : List (List ℕ)) (files : FileMap) (status : Status) (after : FileMap) (text : List ℕ) : Type
+    0 where
   -- the words give no order
-  no_order : order_of words ≡ None → Ends status after text Usage files usage_line → Script words files status after text
+  no_order : order_of words ≡ None → Ends status after text Usage files usage_line
+      → Script words files status after text
   -- there is no profile file
   no_profile : (names : Names) → order_of words ≡ Some names → get files names.profile ≡ None
       → Ends status after text ReadFault files read_fault_line → Script words files status after text
@@ -42,5 +45,7 @@ pub data Script (words : List (List ℕ)) (files : FileMap) (status : Status) (a
   taken : (names : Names) (field : Field) → HasField words files names field → IsSome (get files names.output)
       → Ends status after text WriteFault files write_fault_line → Script words files status after text
   -- else the output holds exactly the good rows, each once, in ascending order
-  written : (names : Names) (field : Field) (rows : List (List Cell)) → HasField words files names field → get files names.output ≡ None → IsAnswer field rows
-      → Ends status after text Done (insert files names.output (csv_text field.name rows)) (done_line (length rows)) → Script words files status after text
+  written : (names : Names) (field : Field) (rows : List (List Flag)) → HasField words files names field
+      → get files names.output ≡ None → IsFlagAnswer field rows
+      → Ends status after text Done (insert files names.output (csv_text field.name rows)) (done_line (length rows))
+      → Script words files status after text

@@ -2,7 +2,7 @@
 
 ghost use Rattle.std.specs.Prelude.{◌≡◌, ◌++◌, IfOk, OnOk};
 ghost use Rattle.helix_run.specs.Rows.{rows_of};
-ghost use Rattle.helix_run.specs.Output.{csv_text, cell_text, quoted};
+ghost use Rattle.helix_run.specs.Output.{csv_text, flag_text, quoted};
 
 use std::alloc::{AllocError, Global};
 
@@ -14,13 +14,13 @@ pub fn csv_text(alloc: Global, name: &[u8], cells: &[Option<bool>]) -> Result<Ve
     push_quoted(&mut text, name)?;
     text.push(b'\n')?;
     for cell in cells {
-        text.extend_from_slice(cell_text(*cell))?;
+        text.extend_from_slice(flag_text(*cell))?;
         text.push(b'\n')?;
     }
     Ok(text)
 }
 
-/// Appends a text between quotes, in which each quote stands twice.
+/// Appends a text between quotes, in which each quote is doubled.
 fn push_quoted(out: &mut Vec<u8>, text: &[u8]) -> Result<(), AllocError>
     ensures { OnOk result (out.new.items ≡ out.old.items ++ quoted text.now) }
 {
@@ -36,8 +36,8 @@ fn push_quoted(out: &mut Vec<u8>, text: &[u8]) -> Result<(), AllocError>
 }
 
 /// The text of a cell; null is the empty text.
-fn cell_text(cell: Option<bool>) -> &'static [u8]
-    ensures { result.now ≡ cell_text cell }
+fn flag_text(cell: Option<bool>) -> &'static [u8]
+    ensures { result.now ≡ flag_text cell }
 {
     match cell {
         Some(true) => b"true",

@@ -1,7 +1,8 @@
-//! A run of helix: it reads the words of a command line and a profile file, and writes the rows that satisfy the profile.
+//! A run of helix: it reads the words of a command line and a profile file, and writes the rows that satisfy the
+//! profile.
 //!
-//! [`run`] is the top call. What it does where nothing of the outside fails is its script (`specs/Script.antt`): the
-//! answer list of the profile (`specs/Rows.antt`) as CSV (`specs/Output.antt`). Why it answers as it does stands in
+//! [`run`] is the top call. What it does where neither disk nor console fails is its script (`specs/Script.antt`): the
+//! answer list of the profile (`specs/Rows.antt`) as CSV (`specs/Output.antt`). Why it answers as it does is in
 //! `specs/Causes.antt`, and what it leaves in `specs/Left.antt`. So far a profile is one boolean field without
 //! constraints (`specs/Profile.antt`), and the words are the two names that every run needs (`specs/Words.antt`).
 #![tactic(auto)]

@@ -2,8 +2,8 @@
 
 ghost use Rattle.std.specs.Prelude.{◌≡◌, List, ℕ, map, string_bytes, MatchOption, length};
 ghost use Rattle.helix_run.specs.Words.{order_of, names};
-ghost use Rattle.helix_run.specs.Outcome.{EndsOrder, HasInput, EndsProfile, EndsField};
-ghost use Rattle.helix_run.specs.Name.{field_of};
+ghost use Rattle.helix_run.specs.Inner.Outcome.{EndsOrder, HasInput, EndsProfile, EndsField};
+ghost use Rattle.helix_run.specs.Inner.Name.{field_of};
 
 use crate::csv::csv_text;
 use crate::output::write_file;

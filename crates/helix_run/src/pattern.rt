@@ -1,9 +1,9 @@
-//! Bytes that are written as a pattern says, in which a space stands for any blanks.
+//! Bytes that are written as a pattern says, in which a space means any blanks.
 
 ghost use Rattle.std.specs.Prelude.{◌≡◌, ◌↔◌, List, ℕ, [], IfSome, IsNone, IsTrue, option_map};
 ghost use Rattle.std.specs.List.{list_all};
-ghost use Rattle.helix_run.specs.Profile.{Follows, is_blank};
-ghost use Rattle.helix_run.specs.Pattern.{after, after_blanks, is_settled};
+ghost use Rattle.helix_run.specs.Profile.{Follows, is_space};
+ghost use Rattle.helix_run.specs.Inner.Pattern.{after, after_blanks, is_settled};
 
 /// Whether the bytes, to their end, are written as the pattern says.
 pub fn follows(bytes: &[u8], pattern: &[u8]) -> bool
@@ -16,7 +16,7 @@ pub fn follows(bytes: &[u8], pattern: &[u8]) -> bool
     }
 }
 
-/// What stands behind the pattern, or `None` where the bytes don't begin as it says.
+/// What is after the pattern, or `None` where the bytes don't begin as it says.
 pub fn after<'a>(bytes: &'a [u8], pattern: &[u8]) -> Option<&'a [u8]>
     ensures { option_map (λ rest. rest.now) result ≡ after pattern.now bytes.now }
 {
@@ -41,7 +41,7 @@ fn after_blanks(bytes: &[u8]) -> &[u8]
 {
     let mut rest = bytes;
     while let [first, others @ ..] = rest {
-        if !is_blank(*first) {
+        if !is_space(*first) {
             break;
         }
         rest = others;
@@ -50,8 +50,8 @@ fn after_blanks(bytes: &[u8]) -> &[u8]
 }
 
 /// Whether a byte is a blank of JSON (RFC 8259, section 2).
-fn is_blank(byte: u8) -> bool
-    ensures { result ≡ is_blank byte }
+fn is_space(byte: u8) -> bool
+    ensures { result ≡ is_space byte }
 {
     matches!(byte, b' ' | b'\t' | b'\n' | b'\r')
 }

@@ -1,8 +1,8 @@
 //! The profile files that are accepted so far: one boolean field, and no constraints.
 
 ghost use Rattle.std.specs.Prelude.{◌≡◌, ◌≢◌, ℕ, List, Bool, [], Option, IfSome, IfNone, MatchOption, length, ◌≤◌};
-ghost use Rattle.helix_run.specs.Profile.{ReadsProfile, IsRefused, IsName, quoted_before, closing, Follows, Closes, is_name_character};
-ghost use Rattle.helix_run.specs.Name.{name_length, field_of};
+ghost use Rattle.helix_run.specs.Profile.{ReadsProfile, IsRefused, IsFlagName, quoted_before, closing, Follows, Closes, is_name_character};
+ghost use Rattle.helix_run.specs.Inner.Name.{name_length, field_of};
 
 use crate::pattern::{after, follows};
 
@@ -31,11 +31,11 @@ pub fn read_profile(bytes: &[u8]) -> Option<Field<'_>>
     Some(Field { name, nullable })
 }
 
-/// The name that stands between quotes at the front, and what is behind it.
+/// The name between quotes at the start, and what is after it.
 fn quoted_name(bytes: &[u8]) -> Option<(&[u8], &[u8])>
-    ensures name { IfSome result (λ parts. IsName parts.0.now) }
+    ensures name { IfSome result (λ parts. IsFlagName parts.0.now) }
     ensures parts { IfSome result (λ parts. bytes.now ≡ quoted_before parts.0.now parts.1.now) }
-    ensures none { IfNone result ((name rest : List ℕ) → IsName name → bytes.now ≢ quoted_before name rest) }
+    ensures none { IfNone result ((name rest : List ℕ) → IsFlagName name → bytes.now ≢ quoted_before name rest) }
 {
     let (first, inner) = bytes.split_first()?;
     let end = name_length(inner);
@@ -45,7 +45,7 @@ fn quoted_name(bytes: &[u8]) -> Option<(&[u8], &[u8])>
     Some((&inner[..end], &inner[end + 1..]))
 }
 
-/// How many characters of a name stand at the front.
+/// The number of characters of a name at the start.
 fn name_length(bytes: &[u8]) -> usize
     ensures value { result ≡ name_length bytes.now }
     ensures within { result ≤ length bytes.now }
@@ -58,14 +58,14 @@ fn name_length(bytes: &[u8]) -> usize
     bytes.len()
 }
 
-/// Whether a byte may stand in a name.
+/// Whether a byte may be part of a name.
 fn is_name_character(byte: u8) -> bool
     ensures { result ≡ is_name_character byte }
 {
     matches!(byte, b' '..=b'~') && !matches!(byte, b'"' | b'\\')
 }
 
-/// What the bytes behind the name say of null, or `None` where they are not written as they have to be.
+/// What the bytes after the name say of null, or `None` where they are not written as they have to be.
 fn nullable_of(bytes: &[u8]) -> Option<bool>
     ensures says { IfSome result (Closes bytes.now) }
     ensures none { IfNone result ((written : Option Bool) → ¬ Follows (closing written) bytes.now []) }

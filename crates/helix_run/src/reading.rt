@@ -1,7 +1,7 @@
 //! Reading a whole file.
 
 ghost use Rattle.std.specs.Prelude.{◌≡◌, IfOk, MatchResult};
-ghost use Rattle.helix_run.specs.Reading.{OnlyReads, AreRead, StopsReading};
+ghost use Rattle.helix_run.specs.Inner.Reading.{OnlyReads, AreRead, StopsReading};
 
 use helix_outside::{Disk, Failed};
 use std::alloc::{AllocError, Global};

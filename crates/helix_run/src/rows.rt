@@ -2,11 +2,11 @@
 
 ghost use Rattle.std.specs.Prelude.{◌≡◌};
 ghost use Rattle.helix_run.specs.Profile.{Field};
-ghost use Rattle.helix_run.specs.Rows.{IsAnswer, rows_of};
+ghost use Rattle.helix_run.specs.Rows.{IsFlagAnswer, rows_of};
 
 /// The cells of the good rows, in ascending order. `None` is null.
 pub fn answer(nullable: bool) -> &'static [Option<bool>]
-    ensures { (field : Field) → field.nullable ≡ nullable → IsAnswer field (rows_of result.now) }
+    ensures { (field : Field) → field.nullable ≡ nullable → IsFlagAnswer field (rows_of result.now) }
 {
     if nullable {
         &[Some(false), Some(true), None]

@@ -1,10 +1,10 @@
-//! A run over an outside that never fails.
+//! A run over an environment that never fails.
 
 ghost use Rattle.std.specs.Prelude.{◌≡◌, ◌≢◌, map, string_bytes, None};
 ghost use Rattle.helix_outside.specs.SteadyConsole.{steady_screen};
 ghost use Rattle.helix_outside.specs.SteadyDisk.{steady_state};
 ghost use Rattle.helix_run.specs.Causes.{Cause};
-ghost use Rattle.helix_run.specs.Outside.{outside};
+ghost use Rattle.helix_run.specs.Environment.{environment};
 ghost use Rattle.helix_run.specs.Words.{order_of};
 
 use crate::status::Status;
@@ -23,8 +23,9 @@ pub fn run_steady(
     ensures no_read_fault { result ≢ Status.ReadFault }
     ensures no_write_fault { result ≢ Status.WriteFault }
     ensures cause { Cause (map string_bytes words.now)
-        (outside (steady_state disk.old) steady_screen) result (outside (steady_state disk.new) steady_screen) }
-    ensures usage_comes { order_of (map string_bytes words.now) ≡ None → result ≢ Status.WantOfMemory → result ≡ Status.Usage }
+        (environment (steady_state disk.old) steady_screen) result (environment (steady_state disk.new) steady_screen) }
+    ensures usage_comes { order_of (map string_bytes words.now) ≡ None → result ≢ Status.WantOfMemory
+        → result ≡ Status.Usage }
 {
     run(alloc, words, disk, console)
 }

@@ -2,7 +2,7 @@
 
 ghost use Rattle.std.specs.Prelude.{◌≡◌, ◌≤◌, length};
 ghost use Rattle.helix_run.specs.Lines.{done_line};
-ghost use Rattle.helix_run.specs.Outcome.{Tells, line_for, status_for};
+ghost use Rattle.helix_run.specs.Inner.Outcome.{Tells, line_for, status_for};
 
 use crate::outcome::Outcome;
 use crate::status::Status;

@@ -4,10 +4,10 @@ ghost use Rattle.std.specs.Prelude.{◌≡◌, ◌≢◌, List, ℕ, map, string
 ghost use Rattle.std.specs.FinMap.{get};
 ghost use Rattle.helix_outside.specs.Count.{Rose};
 ghost use Rattle.helix_run.specs.Words.{order_of, names};
-ghost use Rattle.helix_run.specs.Outside.{outside, IsQuiet, FollowsScript};
+ghost use Rattle.helix_run.specs.Environment.{environment, IsQuiet, FollowsScript};
 ghost use Rattle.helix_run.specs.Causes.{Cause, ProfileIsRefused, ProfileIsRead, OutputIsThere};
 ghost use Rattle.helix_run.specs.Left.{Left, HoldsWhole, ShowsLine};
-ghost use Rattle.helix_run.specs.Outcome.{Generates};
+ghost use Rattle.helix_run.specs.Inner.Outcome.{Generates};
 
 use crate::outcome::{Outcome, carry_out};
 use crate::status::Status;
@@ -25,23 +25,26 @@ pub fn run<D: Disk, C: Console>(
     disk: &mut D,
     console: &mut C,
 ) -> Status
-    // The headline: where nothing of the outside fails, a run does what its script says.
+    // The headline: where neither disk nor console fails, a run does what its script says.
     ensures script { let words = map string_bytes words.now in
-        let before = outside (D.state disk.old) (C.screen console.old) in
-        let after = outside (D.state disk.new) (C.screen console.new) in
-        IsTrue before.disk.told → IsQuiet before after → result ≢ Status.WantOfMemory → FollowsScript words before result after }
+        let before = environment (D.state disk.old) (C.screen console.old) in
+        let after = environment (D.state disk.new) (C.screen console.new) in
+        IsTrue before.disk.told → IsQuiet before after → result ≢ Status.WantOfMemory
+            → FollowsScript words before result after }
 
     // Each status has its cause, and comes where that cause holds.
     ensures cause { Cause (map string_bytes words.now)
-        (outside (D.state disk.old) (C.screen console.old)) result (outside (D.state disk.new) (C.screen console.new)) }
-    ensures usage_comes { order_of (map string_bytes words.now) ≡ None → result ≢ Status.WantOfMemory → result ≡ Status.Usage }
-    ensures refusal_comes { IsTrue (D.state disk.old).told → ProfileIsRefused (map string_bytes words.now) (D.state disk.old).files
+        (environment (D.state disk.old) (C.screen console.old)) result (environment (D.state disk.new) (C.screen console.new)) }
+    ensures usage_comes { order_of (map string_bytes words.now) ≡ None → result ≢ Status.WantOfMemory
+        → result ≡ Status.Usage }
+    ensures refusal_comes { IsTrue (D.state disk.old).told
+        → ProfileIsRefused (map string_bytes words.now) (D.state disk.old).files
         → result ≢ Status.ReadFault → result ≢ Status.WantOfMemory → result ≡ Status.ProfileRefused }
 
     // Where all is accepted and nothing fails, the rows are written.
     ensures completes { let words = map string_bytes words.now in
-        let before = outside (D.state disk.old) (C.screen console.old) in
-        let after = outside (D.state disk.new) (C.screen console.new) in
+        let before = environment (D.state disk.old) (C.screen console.old) in
+        let after = environment (D.state disk.new) (C.screen console.new) in
         IsTrue before.disk.told → ProfileIsRead words before.disk.files → ¬ OutputIsThere words before.disk
         → IsQuiet before after → result ≢ Status.WantOfMemory → result ≡ Status.Done }
 
@@ -55,7 +58,8 @@ pub fn run<D: Disk, C: Console>(
         → ¬ Rose (D.state disk.old).write_faults (D.state disk.new).write_faults
         → ¬ OutputIsThere (map string_bytes words.now) (D.state disk.old)
         → HoldsWhole (map string_bytes words.now) (D.state disk.old).files (D.state disk.new).files }
-    ensures shown { IsTrue (C.screen console.old).told → ¬ Rose (C.screen console.old).faults (C.screen console.new).faults
+    ensures shown { IsTrue (C.screen console.old).told
+        → ¬ Rose (C.screen console.old).faults (C.screen console.new).faults
         → ShowsLine (C.screen console.old) result (C.screen console.new) }
 {
     let outcome = generate(alloc, words, disk);

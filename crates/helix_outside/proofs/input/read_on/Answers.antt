@@ -9,5 +9,6 @@ returns-clause-given c =
     let count = c.fill-count.result in
     sym (ap (λ (i : ℕ). drop i bytes) c.min-from.ensures ∙ drop_min c.args.position.now bytes)
     ∙ sym (take-append-drop count (drop from bytes))
-    ∙ ap (λ front. front ++ drop count (drop from bytes)) (sym (c.fill-count.ensures.given ∙ ap (take count) (take_rest bytes from)))
+    ∙ ap (λ prefix. prefix ++ drop count (drop from bytes))
+    (sym (c.fill-count.ensures.given ∙ ap (take count) (take_rest bytes from)))
     ∙ ap (λ back. take count c.fill-count.new.buffer ++ back) (drop-drop count from bytes)

@@ -1,5 +1,5 @@
 use Rattle.std.proofs.Common.{◌≡◌, drop}
-use Rattle.helix_run.specs.Pattern.{after}
+use Rattle.helix_run.specs.Inner.Pattern.{after}
 use Rattle.helix_run.proofs.pattern.after.Given as goal
 
 abbrev pub invariant-loop-expected : goal.invariant-loop-expected

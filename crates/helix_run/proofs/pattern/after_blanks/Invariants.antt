@@ -1,5 +1,5 @@
 use Rattle.std.proofs.Common.{◌≡◌, length}
-use Rattle.helix_run.specs.Pattern.{after_blanks}
+use Rattle.helix_run.specs.Inner.Pattern.{after_blanks}
 use Rattle.helix_run.proofs.pattern.after_blanks.Given as goal
 
 abbrev pub invariant-loop-rest : goal.invariant-loop-rest

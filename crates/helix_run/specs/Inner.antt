@@ -1,0 +1,5 @@
+pub mod Reading
+pub mod Writing
+pub mod Pattern
+pub mod Name
+pub mod Outcome
