@@ -1,3 +1,1 @@
-pub mod Booleans
-pub mod Scalars
 pub mod Tables

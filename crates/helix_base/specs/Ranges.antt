@@ -10,15 +10,15 @@ are_in_order (range ∷ []) = nat_le range.0 range.1
 are_in_order (range ∷ next ∷ ranges) = (nat_le range.0 range.1 && nat_lt range.1 next.0) && are_in_order (next ∷ ranges)
 
 -- the code is in some range
-abbrev pub is_listed : List (ℕ × ℕ) → ℕ → Bool
-is_listed ranges code = list_any (is_in_range code) ranges
+abbrev pub in_ranges : List (ℕ × ℕ) → ℕ → Bool
+in_ranges ranges code = list_any (is_in_range code) ranges
 
 -- the least listed code that isn't below a bound
 pub record IsLeastFrom (ranges : List (ℕ × ℕ)) (bound code : ℕ) : Type 0 where
-  pub listed : IsTrue (is_listed ranges code)
+  pub listed : IsTrue (in_ranges ranges code)
   pub reached : bound ≤ code
-  pub least : (other : ℕ) → IsTrue (is_listed ranges other) → bound ≤ other → code ≤ other
+  pub least : (other : ℕ) → IsTrue (in_ranges ranges other) → bound ≤ other → code ≤ other
 
 -- no listed code is that high
 abbrev pub EndsBelow : List (ℕ × ℕ) → ℕ → Type 0
-EndsBelow ranges bound = (other : ℕ) → IsTrue (is_listed ranges other) → ¬ (bound ≤ other)
+EndsBelow ranges bound = (other : ℕ) → IsTrue (in_ranges ranges other) → ¬ (bound ≤ other)

@@ -4,7 +4,7 @@ ghost use Rattle.std.specs.Prelude.{◌≡◌, true, IfSome, IfNone};
 ghost use Rattle.helix_base.specs.Alphabet.{is_character_of, ranges_of};
 ghost use Rattle.helix_base.specs.Ranges.{are_in_order, IsLeastFrom, EndsBelow};
 
-use crate::ranges::{is_listed, next_at_or_after};
+use crate::ranges::{in_ranges, next_at_or_after};
 
 /// The characters that a text may have: printable ASCII, printable Latin-1, or every Unicode
 /// scalar value but the control characters. `specs/Alphabet.antt` lists their ranges.
@@ -23,7 +23,7 @@ impl Alphabet {
     pub fn has(self, code: u32) -> bool
         ensures { result ≡ is_character_of self code }
     {
-        is_listed(self.ranges(), code)
+        in_ranges(self.ranges(), code)
     }
 
     /// The least character of the alphabet that isn't below this code, or `None` where there is none.

@@ -1,7 +1,7 @@
 //! Tables of ranges of codes.
 
 ghost use Rattle.std.specs.Prelude.{◌≡◌, true, false, IfSome, IfNone};
-ghost use Rattle.helix_base.specs.Ranges.{are_in_order, is_listed, IsLeastFrom, EndsBelow};
+ghost use Rattle.helix_base.specs.Ranges.{are_in_order, in_ranges, IsLeastFrom, EndsBelow};
 
 use std::marker::Model;
 
@@ -24,7 +24,7 @@ impl<const N: usize> Model for RangeTable<N> {
 }
 
 impl<const N: usize> RangeTable<N> {
-    /// The table of these ranges, or `None` where one is turned round, or two aren't in order and apart.
+    /// The table of these ranges, or `None` where one is reversed, or two aren't in order and apart.
     pub fn new(ranges: [(u32, u32); N]) -> Option<RangeTable<N>>
         ensures some { IfSome result (λ table. table ≡ ranges.entry) }
         ensures in_order { IfSome result (λ _. are_in_order ranges.entry ≡ true) }
@@ -39,9 +39,9 @@ impl<const N: usize> RangeTable<N> {
 
     /// Whether a code is in some range.
     pub fn has(&self, code: u32) -> bool
-        ensures { result ≡ is_listed self.now code }
+        ensures { result ≡ in_ranges self.now code }
     {
-        is_listed(self.ranges.as_slice(), code)
+        in_ranges(self.ranges.as_slice(), code)
     }
 
     /// The least code of the table that isn't below this one, or `None` where there is none.
@@ -53,7 +53,7 @@ impl<const N: usize> RangeTable<N> {
     }
 }
 
-/// Whether no range is turned round and each ends below the next one's beginning.
+/// Whether no range is reversed and each ends below the next one's beginning.
 fn are_in_order(ranges: &[(u32, u32)]) -> bool
     ensures { result ≡ are_in_order ranges.now }
 {
@@ -71,8 +71,8 @@ fn are_in_order(ranges: &[(u32, u32)]) -> bool
 }
 
 /// Whether a code is in some range.
-pub(crate) fn is_listed(ranges: &[(u32, u32)], code: u32) -> bool
-    ensures { result ≡ is_listed ranges.now code }
+pub fn in_ranges(ranges: &[(u32, u32)], code: u32) -> bool
+    ensures { result ≡ in_ranges ranges.now code }
 {
     ranges
         .iter()

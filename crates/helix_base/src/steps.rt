@@ -1,7 +1,8 @@
 //! Counts of the steps of a walk.
 
 ghost use Rattle.std.specs.Prelude.{◌≡◌};
-ghost use Rattle.helix_base.specs.Steps.{Counted, count_of, ticked, no_steps};
+ghost use Rattle.helix_base.specs.Steps.{count_of, ticked, no_steps};
+ghost use Rattle.helix_base.specs.declared.steps.Unit.{Unit as Step};
 
 use std::marker::Model;
 
@@ -14,20 +15,28 @@ pub enum Unit {
     Move,
 }
 
-/// Where steps are noted.
+/// Where steps are noted. The ghost relation `IsNoted before unit after` is what a ledger promises of a note: that
+/// `after` is `before` with one more note of that unit.
 pub trait Ledger {
-    fn note(&mut self, unit: Unit);
+    ghost IsNoted: { Self → Step → Self → Type 0 };
+
+    /// Notes one unit.
+    fn note(&mut self, unit: Unit)
+        ensures { IsNoted self.old unit self.new };
 }
 
-/// A ledger that keeps nothing.
+/// A ledger that keeps nothing, and so promises nothing.
 #[derive(Clone, Copy, Debug, PartialEq, Eq, Hash)]
 pub struct Quiet;
 
 impl Ledger for Quiet {
+    ghost IsNoted = { λ _ _ _. Unit {0} };
+
     fn note(&mut self, _unit: Unit) {}
 }
 
-/// Two counts of steps, one for each unit, which stand still at 2^64 - 1. Contracts see the counts.
+/// A ledger, and two counts of steps, one for each unit, that stay at 2^64 - 1 once they are there. Contracts see the
+/// counts and the ledger.
 #[derive(Debug, Drop)]
 pub struct Steps<L: Ledger> {
     ledger: L,
@@ -36,17 +45,18 @@ pub struct Steps<L: Ledger> {
 }
 
 impl<L: Ledger> Model for Steps<L> {
-    ghost use Rattle.helix_base.specs.Steps.{Counted};
+    ghost use Rattle.helix_base.specs.Steps.{Counted, Tally};
 
-    ghost Value = { Counted };
+    ghost Value = { Tally L };
 
-    ghost view = { λ steps. record { domain = steps.domain; moves = steps.moves } };
+    ghost view = { λ steps. record { counts = record { domain = steps.domain; moves = steps.moves }; ledger = steps.ledger } };
 }
 
 impl<L: Ledger> Steps<L> {
     /// No steps yet.
     pub fn new(ledger: L) -> Steps<L>
-        ensures { result ≡ no_steps }
+        ensures counts { result.counts ≡ no_steps }
+        ensures ledger { result.ledger ≡ ledger }
     {
         Steps {
             ledger,
@@ -55,9 +65,10 @@ impl<L: Ledger> Steps<L> {
         }
     }
 
-    /// Notes a step and counts it.
+    /// Notes a step in the ledger, once, and counts it.
     pub fn tick(&mut self, unit: Unit)
-        ensures { self.new ≡ ticked self.old unit }
+        ensures counts { self.new.counts ≡ ticked self.old.counts unit }
+        ensures noted { L.IsNoted self.old.ledger unit self.new.ledger }
     {
         self.ledger.note(unit);
         match unit {
@@ -68,11 +79,18 @@ impl<L: Ledger> Steps<L> {
 
     /// How many steps of a unit were counted.
     pub fn count(&self, unit: Unit) -> u64
-        ensures { result ≡ count_of self.now unit }
+        ensures { result ≡ count_of self.now.counts unit }
     {
         match unit {
             Unit::Domain => self.domain,
             Unit::Move => self.moves,
         }
+    }
+
+    /// The ledger.
+    pub fn ledger(&self) -> &L
+        ensures { result.now ≡ self.now.ledger }
+    {
+        &self.ledger
     }
 }

@@ -1,4 +1,10 @@
-use crate::{Alphabet, Bytes, Numbers32, Quiet, RangeTable, Steps, Text, Unit, WeightTable};
+ghost use Rattle.std.specs.Prelude.{◌≡◌};
+ghost use Rattle.helix_base.specs.Count.{raised};
+
+use crate::{
+    Alphabet, Bytes, Ledger, List, Numbers32, Quiet, RangeTable, Steps, Text, Unit, WeightTable,
+    in_ranges, is_digit,
+};
 use std::test::Fail;
 
 #[test]
@@ -17,6 +23,7 @@ fn texts_are_their_code_points(rt: HostRuntime) -> Result<(), Fail> {
         assert_eq!(rt; text.codes(), codes, "{string}");
         assert_eq!(rt; text.copy(rt.alloc())?.codes(), codes, "{string}");
         assert_eq!(rt; text.written(rt.alloc())?.as_str(), string);
+        assert_eq!(rt; Text::from_codes(rt.alloc(), text.codes())?.codes(), codes);
     }
     Ok(())
 }
@@ -32,6 +39,11 @@ fn lists_grow_and_are_copied(rt: HostRuntime) -> Result<(), Fail> {
     let mut numbers = Numbers32::new(rt.alloc());
     numbers.push(u32::MAX)?;
     assert_eq!(rt; numbers.copy(rt.alloc())?.as_slice(), [u32::MAX].as_slice());
+    let mut texts: List<Text> = List::new(rt.alloc());
+    texts.push(text)?;
+    let mut lists: List<List<Text>> = List::new(rt.alloc());
+    lists.push(texts.copy(rt.alloc())?)?;
+    assert_eq!(rt; lists.copy(rt.alloc())?.as_slice().len(), 1);
     Ok(())
 }
 
@@ -47,6 +59,7 @@ fn tables_are_in_order_or_refused(rt: HostRuntime) -> Result<(), Fail> {
         assert!(rt; RangeTable::new(ranges).is_none(), "{ranges:?}");
     }
     assert!(rt; RangeTable::new([]).is_some());
+    assert!(rt; in_ranges(&[(9, 9), (1, 3)], 3) && !in_ranges(&[(9, 9), (1, 3)], 8));
     let table = RangeTable::new([(3, 3), (4, 6), (9, u32::MAX)]).ok_or("in order")?;
     let cases = [
         (0, false, 3),
@@ -93,17 +106,42 @@ fn alphabets_have_their_characters(rt: HostRuntime) {
     }
 }
 
+/// A ledger that counts what is noted.
+#[derive(Debug, Drop)]
+struct Counting {
+    noted: u64,
+}
+
+impl Ledger for Counting {
+    ghost IsNoted = { λ before _ after. after.noted ≡ raised before.noted };
+
+    fn note(&mut self, _unit: Unit) {
+        self.noted = self.noted.saturating_add(1);
+    }
+}
+
 #[test]
-fn sums_and_steps_are_counted(rt: HostRuntime) {
+fn sums_digits_and_steps_are_counted(rt: HostRuntime) {
     // The weights of a SEDOL, and the values of 0263494.
     let table = WeightTable::new([1, 3, 1, 7, 3, 9, 1]);
     assert_eq!(rt; table.sum(&[0, 2, 6, 3, 4, 9, 4]), 130);
-    let mut steps = Steps::new(Quiet);
+    let digits = [('/', false), ('0', true), ('9', true), (':', false)];
+    for (character, is) in digits {
+        assert_eq!(rt; is_digit(character as u32), is, "{character}");
+    }
+    let mut steps = Steps::new(Counting { noted: 0 });
     steps.tick(Unit::Move);
     steps.tick(Unit::Move);
     steps.tick(Unit::Domain);
     assert_eq!(rt;
-        (steps.count(Unit::Domain), steps.count(Unit::Move)),
-        (1, 2)
+        (
+            steps.count(Unit::Domain),
+            steps.count(Unit::Move),
+            steps.ledger().noted
+        ),
+        (1, 2, 3)
     );
+    let mut unnoted = Steps::new(Quiet);
+    unnoted.tick(Unit::Domain);
+    assert_eq!(rt; unnoted.count(Unit::Domain), 1);
 }

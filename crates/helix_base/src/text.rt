@@ -5,6 +5,7 @@ ghost use Rattle.std.specs.Char.{IsScalar};
 ghost use Rattle.std.specs.Str.{all_scalars, chars, encode_utf8_all};
 ghost use Rattle.std.specs.String.{string_bytes};
 
+use crate::copy::TryCopy;
 use crate::memory::Memory;
 use std::alloc::{AllocError, Global};
 use std::marker::Model;
@@ -37,12 +38,22 @@ impl Text {
     }
 
     /// The text that a `&str` holds.
-    #[tactic(auto, using(crate::proofs::Scalars::read_steps))]
+    #[tactic(auto, using(crate::specs::Inner::ScalarLaws::read_steps))]
     pub fn of(alloc: Global, text: &str) -> Result<Text, Memory>
         ensures { IfOk result (λ made. made ≡ chars text.now) }
     {
         Ok(Text {
             codes: code_points(alloc, text)?,
+        })
+    }
+
+    /// The text of these code points.
+    pub fn from_codes(alloc: Global, codes: &[u32]) -> Result<Text, Memory>
+        requires { IsTrue (all_scalars codes.now) }
+        ensures { IfOk result (λ made. made ≡ codes.now) }
+    {
+        Ok(Text {
+            codes: Vec::from_slice(alloc, codes)?,
         })
     }
 
@@ -71,12 +82,17 @@ impl Text {
         Ok(utf8(alloc, self.codes.as_slice())?)
     }
 
+    /// An equal text.
     pub fn copy(&self, alloc: Global) -> Result<Text, Memory>
         ensures { IfOk result (λ copy. copy ≡ self.now) }
     {
-        Ok(Text {
-            codes: Vec::from_slice(alloc, self.codes.as_slice())?,
-        })
+        Text::from_codes(alloc, self.codes())
+    }
+}
+
+impl TryCopy for Text {
+    fn try_copy(&self, alloc: Global) -> Result<Text, Memory> {
+        self.copy(alloc)
     }
 }
 
@@ -90,7 +106,7 @@ fn code_points(alloc: Global, text: &str) -> Result<Vec<u32>, AllocError>
 }
 
 /// The UTF-8 of code points.
-#[tactic(auto, using(crate::proofs::Scalars::written_steps))]
+#[tactic(auto, using(crate::specs::Inner::ScalarLaws::written_steps))]
 fn utf8(alloc: Global, codes: &[u32]) -> Result<String, AllocError>
     requires { IsTrue (all_scalars codes.now) }
     ensures { IfOk result (λ string. string_bytes string ≡ encode_utf8_all codes.now) }

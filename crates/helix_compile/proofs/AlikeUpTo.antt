@@ -4,19 +4,19 @@ use Rattle.std.proofs.lemmas.List.{take_more, take_all}
 use Rattle.std.proofs.lemmas.List.Folds.{list_any-append}
 use Rattle.std.proofs.lemmas.List.Elements.{Contains-push_cases}
 use Rattle.helix_base.specs.Alphabet.{is_in_range}
-use Rattle.helix_base.specs.Ranges.{is_listed}
+use Rattle.helix_base.specs.Ranges.{in_ranges}
 use Rattle.helix_compile.specs.declared.place.Place.{Place}
 use Rattle.helix_compile.specs.Subsets.{IsReadAlike}
 
 -- one more range
-pub listed_more : (ranges : List (ℕ × ℕ)) (at : ℕ) (d : ℕ × ℕ) (code other : ℕ) → at < length ranges → is_listed (take at ranges) other ≡ is_listed (take at ranges) code
-    → is_in_range other (get_or ranges at d) ≡ is_in_range code (get_or ranges at d) → is_listed (take (at + 1) ranges) other ≡ is_listed (take (at + 1) ranges) code
+pub listed_more : (ranges : List (ℕ × ℕ)) (at : ℕ) (d : ℕ × ℕ) (code other : ℕ) → at < length ranges → in_ranges (take at ranges) other ≡ in_ranges (take at ranges) code
+    → is_in_range other (get_or ranges at d) ≡ is_in_range code (get_or ranges at d) → in_ranges (take (at + 1) ranges) other ≡ in_ranges (take (at + 1) ranges) code
 listed_more ranges at d code other within same here =
     let is = take_more ranges at d within in
-    split other is ∙ (ap (λ b. b || is_listed (get_or ranges at d ∷ []) other) same ∙ (ap (λ b. is_listed (take at ranges) code || (b || is_listed [] code)) here ∙ sym (split code is)))
+    split other is ∙ (ap (λ b. b || in_ranges (get_or ranges at d ∷ []) other) same ∙ (ap (λ b. in_ranges (take at ranges) code || (b || in_ranges [] code)) here ∙ sym (split code is)))
   where
-    split : (c : ℕ) → take (at + 1) ranges ≡ take at ranges ++ get_or ranges at d ∷ [] → is_listed (take (at + 1) ranges) c ≡ (is_listed (take at ranges) c || is_listed (get_or ranges at d ∷ []) c)
-    split c is = ap (λ l. is_listed l c) is ∙ list_any-append (is_in_range c) (take at ranges) (get_or ranges at d ∷ [])
+    split : (c : ℕ) → take (at + 1) ranges ≡ take at ranges ++ get_or ranges at d ∷ [] → in_ranges (take (at + 1) ranges) c ≡ (in_ranges (take at ranges) c || in_ranges (get_or ranges at d ∷ []) c)
+    split c is = ap (λ l. in_ranges l c) is ∙ list_any-append (is_in_range c) (take at ranges) (get_or ranges at d ∷ [])
 
 -- one more place
 pub alike_more : (places : List Place) (set : List ℕ) (at d code other : ℕ) → at < length set → ((number : ℕ) → Contains (take at set) number → IsReadAlike places number code other)

@@ -1,6 +1,6 @@
 -- Where a character leads from one place.
 use Rattle.std.proofs.Common.{◌≡◌, ◌⊎◌, ◌↔◌, inl, inr, ℕ, zero, suc, ◌+◌, ◌<◌, ◌≤◌, true, false, Option, Some, None, Result, Ok, Err, OnOk, List, [], ◌∷◌, ◌++◌, take, length, get_or, slice_get, Contains, ap, refl, sym, ◌∙◌, subst}
-use Rattle.helix_base.specs.Ranges.{is_listed}
+use Rattle.helix_base.specs.Ranges.{in_ranges}
 use Rattle.helix_compile.specs.declared.place.Place.{Place}
 use Rattle.helix_compile.specs.declared.place.Place.TheVariants.{End, Stop, Read, Either}
 use Rattle.helix_compile.specs.Places.{Does, ReadsIn, Reads}
@@ -22,7 +22,7 @@ unread From (Some (Read ranges next)) code word no_read no_fork reads = no_read 
 unread From (Some (Either one other)) code word no_read no_fork reads = no_fork one other refl
 
 alike : (From : ℕ → List ℕ → Type 0) (at : Option Place) (code other : ℕ) (word : List ℕ)
-    → ((ranges : List (ℕ × ℕ)) (next : ℕ) → at ≡ Some (Read ranges next) → is_listed ranges other ≡ is_listed ranges code) → IsNoFork at
+    → ((ranges : List (ℕ × ℕ)) (next : ℕ) → at ≡ Some (Read ranges next) → in_ranges ranges other ≡ in_ranges ranges code) → IsNoFork at
     → Does From at (code ∷ word) → Does From at (other ∷ word)
 alike From None code other word same no_fork reads = reads
 alike From (Some End) code other word same no_fork reads = cc
@@ -37,14 +37,14 @@ module _ (places : List Place) where
     none_read no_read no_fork (suc steps, reads) = unread (λ next rest. ReadsIn places steps next rest) (slice_get places number) code word no_read no_fork reads
 
     module _ (ranges : List (ℕ × ℕ)) (next : ℕ) (at : slice_get places number ≡ Some (Read ranges next)) where
-      pub read_on : Reads places number (code ∷ word) → (is_listed ranges code ≡ true) × Reads places next word
+      pub read_on : Reads places number (code ∷ word) → (in_ranges ranges code ≡ true) × Reads places next word
       read_on (zero, reads) = absurd reads
       read_on (suc steps, reads) = let (listed, on) = does steps (subst (λ o. Does (λ n r. ReadsIn places steps n r) o (code ∷ word)) at reads) in (listed, (steps, on))
         where
-          does : (steps : ℕ) → Does (λ n r. ReadsIn places steps n r) (Some (Read ranges next)) (code ∷ word) → (is_listed ranges code ≡ true) × ReadsIn places steps next word
+          does : (steps : ℕ) → Does (λ n r. ReadsIn places steps n r) (Some (Read ranges next)) (code ∷ word) → (in_ranges ranges code ≡ true) × ReadsIn places steps next word
           does steps h = h
 
-      pub read_here : is_listed ranges code ≡ true → Reads places next word → Reads places number (code ∷ word)
+      pub read_here : in_ranges ranges code ≡ true → Reads places next word → Reads places number (code ∷ word)
       read_here listed (steps, reads) = (suc steps, subst (λ o. Does (λ n r. ReadsIn places steps n r) o (code ∷ word)) (sym at) (listed, reads))
 
   -- what is noted for one place
@@ -58,11 +58,11 @@ module _ (places : List Place) where
       from (inl h) = h
       from (inr h) = absurd (none word h)
 
-  pub notes_unlisted : (number code : ℕ) (met : List ℕ) (ranges : List (ℕ × ℕ)) (next : ℕ) → slice_get places number ≡ Some (Read ranges next) → is_listed ranges code ≡ false
+  pub notes_unlisted : (number code : ℕ) (met : List ℕ) (ranges : List (ℕ × ℕ)) (next : ℕ) → slice_get places number ≡ Some (Read ranges next) → in_ranges ranges code ≡ false
       → Notes number code met met
   notes_unlisted number code met ranges next at unlisted = notes_none number code met (λ word reads. let e = (read_on number code word ranges next at reads).0 in cc)
 
-  module _ (number code : ℕ) (met new : List ℕ) (ranges : List (ℕ × ℕ)) (next : ℕ) (at : slice_get places number ≡ Some (Read ranges next)) (listed : is_listed ranges code ≡ true) where
+  module _ (number code : ℕ) (met new : List ℕ) (ranges : List (ℕ × ℕ)) (next : ℕ) (at : slice_get places number ≡ Some (Read ranges next)) (listed : in_ranges ranges code ≡ true) where
     notes_added : Contains new next → (new ≡ met) ⊎ (new ≡ met ++ next ∷ []) → Notes number code met new
     notes_added has grows word = let added = reads_added places met new next word grows has in ((λ h. to (added.0 h)), (λ h. added.1 (from h)))
       where

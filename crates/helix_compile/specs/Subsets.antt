@@ -1,6 +1,6 @@
 -- Sets of places, as the states of an automaton. Only the crate's private clauses cite it.
 use Rattle.std.specs.Prelude.{◌≡◌, ◌↔◌, ℕ, Some, List, ◌∷◌, Contains, length, slice_get}
-use Rattle.helix_base.specs.Ranges.{is_listed}
+use Rattle.helix_base.specs.Ranges.{in_ranges}
 use Rattle.helix_automata.specs.declared.arc.Arc.{Arc}
 use Rattle.helix_automata.specs.Automaton.{target}
 use Rattle.helix_automata.specs.Shape.{IsCharacter, AreArcs}
@@ -26,7 +26,7 @@ HasNoFork places set = (number one other : ℕ) → Contains set number → slic
 
 -- the place reads either both codes or neither
 abbrev pub IsReadAlike : List Place → ℕ → ℕ → ℕ → Type 0
-IsReadAlike places number code other = (ranges : List (ℕ × ℕ)) (next : ℕ) → slice_get places number ≡ Some (Read ranges next) → is_listed ranges other ≡ is_listed ranges code
+IsReadAlike places number code other = (ranges : List (ℕ × ℕ)) (next : ℕ) → slice_get places number ≡ Some (Read ranges next) → in_ranges ranges other ≡ in_ranges ranges code
 
 -- each set keeps its number
 abbrev pub KeepTheirNumbers : List (List ℕ) → List (List ℕ) → Type 0

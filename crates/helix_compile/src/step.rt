@@ -2,7 +2,7 @@
 
 ghost use Rattle.std.specs.Prelude.{◌≡◌, ◌↔◌, ◌⊎◌, ◌≤◌, ◌∷◌, ℕ, List, Some, OnOk, Contains, slice_get};
 ghost use Rattle.helix_base.specs.Alphabet.{is_in_range};
-ghost use Rattle.helix_base.specs.Ranges.{is_listed};
+ghost use Rattle.helix_base.specs.Ranges.{in_ranges};
 ghost use Rattle.helix_compile.specs.declared.place.Place.TheVariants.{Either};
 ghost use Rattle.helix_compile.specs.Places.{Reads};
 ghost use Rattle.helix_compile.specs.Subsets.{ReadsSome, HasNoFork, IsReadAlike, LeadsTo};
@@ -14,8 +14,8 @@ use crate::reading::read_at;
 use helix_base::Memory;
 
 /// Whether a code lies in one of the ranges.
-fn is_listed(ranges: &[(u32, u32)], code: u32) -> bool
-    ensures { result ≡ is_listed ranges.now code }
+fn in_ranges(ranges: &[(u32, u32)], code: u32) -> bool
+    ensures { result ≡ in_ranges ranges.now code }
 {
     ranges
         .iter()
@@ -31,7 +31,7 @@ fn note_next(places: &[Place], number: u32, code: u32, met: &mut Met) -> Result<
     let Some((ranges, next)) = read_at(places, number) else {
         return Ok(());
     };
-    if is_listed(ranges, code) {
+    if in_ranges(ranges, code) {
         met.note(next)
     } else {
         Ok(())
@@ -74,7 +74,7 @@ fn range_alike_up_to(range: (u32, u32), code: u32) -> u32
 /// A code up to which the ranges hold each code as they hold this one.
 fn ranges_alike_up_to(ranges: &[(u32, u32)], code: u32) -> u32
     ensures reached { code ≤ result }
-    ensures alike { (other : ℕ) → code ≤ other → other ≤ result → is_listed ranges.now other ≡ is_listed ranges.now code }
+    ensures alike { (other : ℕ) → code ≤ other → other ≤ result → in_ranges ranges.now other ≡ in_ranges ranges.now code }
 {
     let mut last = u32::MAX;
     for range in ranges {

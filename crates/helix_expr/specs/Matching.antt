@@ -1,12 +1,12 @@
 -- What an expression matches: regular languages as textbooks define them, over words of code points.
 use Rattle.std.specs.Prelude.{◌≡◌, ℕ, zero, suc, ◌+◌, ◌<◌, ◌≤◌, length, take, drop, List, [], ◌∷◌, ◌++◌, ◌⊎◌, Bool, IsTrue, Option, MatchOption}
-use Rattle.helix_base.specs.Ranges.{is_listed}
+use Rattle.helix_base.specs.Ranges.{in_ranges}
 use Rattle.helix_expr.specs.declared.expr.Expr.{Expr, Empty, Chars, Seq', Alt', Repeat', Row_of-Expr, end_of-Expr, more_of-Expr}
 use Rattle.helix_expr.specs.declared.regex.Regex.{Regex}
 
 -- the code lies in one of the ranges, ends included
 abbrev pub InRanges : List (ℕ × ℕ) → ℕ → Type 0
-InRanges ranges code = IsTrue (is_listed ranges code)
+InRanges ranges code = IsTrue (in_ranges ranges code)
 
 -- the word is one character of the ranges
 abbrev pub IsOneOf : List (ℕ × ℕ) → List ℕ → Type 0

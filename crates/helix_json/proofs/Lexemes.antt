@@ -14,7 +14,7 @@ use Rattle.helix_json.specs.Lexer.{Lex, between, in_string, in_number, lex_step,
 use Rattle.helix_json.specs.Machine.{Reading, step}
 use Rattle.helix_json.specs.Scan.{may_go, FineLex, HasRead}
 use Rattle.helix_json.specs.Lexeme.{ReadsNumber}
-use Rattle.helix_base.proofs.Scalars.{scalar_at}
+use Rattle.helix_base.specs.Inner.ScalarLaws.{scalar_at}
 use Rattle.std.specs.Str.{all_scalars}
 use Rattle.helix_json.proofs.StringSafe.{go_fine}
 use Rattle.helix_json.proofs.Endings.{run_one}

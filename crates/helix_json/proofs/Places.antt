@@ -4,7 +4,7 @@ use Rattle.std.specs.Option.{SomeIff}
 use Rattle.std.specs.Char.{IsScalar, encode_utf8}
 use Rattle.std.specs.Str.{all_scalars, encode_utf8_all}
 use Rattle.std.proofs.lemmas.List.{get_or-take}
-use Rattle.helix_base.proofs.Scalars.{scalar_at, encodes-take_more}
+use Rattle.helix_base.specs.Inner.ScalarLaws.{scalar_at, encodes-take_more}
 use Rattle.helix_json.specs.Broken.{byte_place}
 
 made : (o : Option ℕ) (code : ℕ) → IsScalar code → SomeIff o (IsScalar code) code → IsSome o

@@ -2,7 +2,7 @@
 use Rattle.std.proofs.Common.{◌≡◌, ℕ, ◌+◌, ◌<◌, ◌≤◌, ◌&&◌, ◌||◌, not, min, Bool, true, false, nat_lt, Option, Some, None, List, [], ◌∷◌, ◌++◌, length, take, get_or, refl, sym, ◌∙◌, ap, subst, append_assoc}
 use Rattle.std.proofs.lemmas.List.{append-nil, take_more, take_all}
 use Rattle.std.specs.List.{list_any}
-use Rattle.helix_base.specs.Ranges.{is_listed}
+use Rattle.helix_base.specs.Ranges.{in_ranges}
 use Rattle.helix_expr.specs.declared.expr.Expr.{Expr, Chars}
 use Rattle.helix_expr.specs.declared.expr.Expr.TheViews.{Repeat}
 use Rattle.helix_expr.specs.declared.regex.Regex.{Regex}
@@ -44,7 +44,7 @@ same_both a b c h k = record { outer = k.outer ∙ h.outer; done = k.done ∙ h.
 no_items : (b : Builder) → ReadsItems [] b b
 no_items b = record {
   same = record { outer = refl; done = refl; pieces = refl };
-  gains = record { all = λ c. sym (or-false (is_listed b.raw.items c)) };
+  gains = record { all = λ c. sym (or-false (in_ranges b.raw.items c)) };
   excluded = refl;
 }
 
@@ -53,7 +53,7 @@ one_item item items a b c h k = record {
   same = same_both a b c h.same k.same;
   gains = record {
     all = λ code. k.gains.all code ∙ (ap (λ x. x || list_any (λ i. item_has i code) items) (h.gains.all code)
-        ∙ or-assoc (is_listed a.raw.items code) (item_has item code) (list_any (λ i. item_has i code) items));
+        ∙ or-assoc (in_ranges a.raw.items code) (item_has item code) (list_any (λ i. item_has i code) items));
   };
   excluded = k.excluded ∙ h.excluded;
 }
@@ -85,14 +85,14 @@ set_after_same f a b c h (ranges, are, pushes) = (ranges, are, after_same (Chars
 abbrev Listed : List Item → ℕ → Bool
 Listed items c = list_any (λ item. item_has item c) items
 
-class_set : (n : Bool) (items : List Item) (excluded : Bool) (raw : List (ℕ × ℕ)) (c : ℕ) → excluded ≡ n → is_listed raw c ≡ Listed items c → class_has excluded raw c ≡ single_has (class n items) c
+class_set : (n : Bool) (items : List Item) (excluded : Bool) (raw : List (ℕ × ℕ)) (c : ℕ) → excluded ≡ n → in_ranges raw c ≡ Listed items c → class_has excluded raw c ≡ single_has (class n items) c
 class_set true items excluded raw c e f = ap (λ x. class_has x raw c) e ∙ ap (λ b. is_character c && not b) f
 class_set false items excluded raw c e f = ap (λ x. class_has x raw c) e ∙ f
 
 class_ends : (n : Bool) (items : List Item) (a b k m : Builder) → Same a b → b.raw.items ≡ [] → b.excluded ≡ n → ReadsItems items b k → PushesSet (class_has k.excluded k.raw.items) k m → PushesSet (single_has (class n items)) a m
 class_ends n items a b k m same raw excluded reads pushes = set_after_same (single_has (class n items)) a k m (same_both a b k same reads.same)
     (same_set (class_has k.excluded k.raw.items) (single_has (class n items)) k m
-    (λ c. class_set n items k.excluded k.raw.items c (reads.excluded ∙ excluded) (reads.gains.all c ∙ ap (λ l. is_listed l c || Listed items c) raw)) pushes)
+    (λ c. class_set n items k.excluded k.raw.items c (reads.excluded ∙ excluded) (reads.gains.all c ∙ ap (λ l. in_ranges l c || Listed items c) raw)) pushes)
 
 single_run : (s : Single) (at : ℕ) (b m : Builder) (r : List Token) → Runs b (single_tokens at s ++ r) m → SingleRun s b r m
 single_run (literal c) at b m r (n, s, h) = (n, s, h)

@@ -3,7 +3,7 @@ use Rattle.std.proofs.Common.{◌≡◌, ℕ, ◌+◌, ◌-◌, ◌≤◌, ◌<�
 use Rattle.std.proofs.lemmas.Bool.{leb-true, le-leb, ltb-true, lt-ltb, leb-false, ltb-false, cases_lt}
 use Rattle.std.specs.List.Sorted.{IsPermutation}
 use Rattle.std.proofs.lemmas.List.Sorted.{list_any-IsPermutation}
-use Rattle.helix_base.specs.Ranges.{is_listed}
+use Rattle.helix_base.specs.Ranges.{in_ranges}
 use Rattle.helix_base.specs.Alphabet.{is_in_range}
 use Rattle.helix_regex.specs.Meaning.{are_separate, AreRangesOf}
 use Rattle.helix_regex.specs.Sets.{Ascending, touches, joined, joined_from}
@@ -66,17 +66,17 @@ union c x r first o p near = same_test _ _
     ])
 
 abbrev Has : ℕ → Pairs → Bool → Type 0
-Has c l b = is_listed l c ≡ b
+Has c l b = in_ranges l c ≡ b
 
-pub has : (rs : Pairs) (x : ℕ × ℕ) (c : ℕ) → x.0 ≤ x.1 → Ascending (x ∷ rs) → is_listed (joined x rs) c ≡ (is_in_range c x || is_listed rs c)
+pub has : (rs : Pairs) (x : ℕ × ℕ) (c : ℕ) → x.0 ≤ x.1 → Ascending (x ∷ rs) → in_ranges (joined x rs) c ≡ (is_in_range c x || in_ranges rs c)
 has [] x c o h = refl
-has (r ∷ rs) x c o h = choose (λ l. Has c l (is_in_range c x || (is_in_range c r || is_listed rs c))) (nat_lt r.1 r.0) _ _
-    (λ e. has rs x c o (skip_up x r rs h) ∙ ap (λ b. is_in_range c x || (b || is_listed rs c)) (sym (empty_range c r e)))
+has (r ∷ rs) x c o h = choose (λ l. Has c l (is_in_range c x || (is_in_range c r || in_ranges rs c))) (nat_lt r.1 r.0) _ _
+    (λ e. has rs x c o (skip_up x r rs h) ∙ ap (λ b. is_in_range c x || (b || in_ranges rs c)) (sym (empty_range c r e)))
     (λ e.
     let good : r.0 ≤ r.1 = ltb-false r.1 r.0 e in
-    choose (λ l. Has c l (is_in_range c x || (is_in_range c r || is_listed rs c))) (touches x r) _ _
+    choose (λ l. Has c l (is_in_range c x || (is_in_range c r || in_ranges rs c))) (touches x r) _ _
     (λ f. has rs (x.0, max x.1 r.1) c (omega arith) (same_first x (x.0, max x.1 r.1) rs refl (skip_up x r rs h))
-    ∙ (ap (λ b. b || is_listed rs c) (union c x r h.0 o good (leb-true (r.0 - x.1) 1 f)) ∙ or-assoc (is_in_range c x) (is_in_range c r) (is_listed rs c)))
+    ∙ (ap (λ b. b || in_ranges rs c) (union c x r h.0 o good (leb-true (r.0 - x.1) 1 f)) ∙ or-assoc (is_in_range c x) (is_in_range c r) (in_ranges rs c)))
     (λ f. ap (λ b. is_in_range c x || b) (has rs r c good (tail_up x (r ∷ rs) h))))
 
 started : (l : Pairs) (n : ℕ) → Starts l n → are_separate l ≡ true
@@ -88,14 +88,14 @@ all_separate [] h = refl
 all_separate (r ∷ rs) h = choose (λ l. are_separate l ≡ true) (nat_lt r.1 r.0) _ _ (λ e. all_separate rs (tail_up r rs h))
     (λ e. started (joined r rs) r.0 (starts rs r (ltb-false r.1 r.0 e) h))
 
-pub all_has : (rs : Pairs) (c : ℕ) → Ascending rs → is_listed (joined_from None rs) c ≡ is_listed rs c
+pub all_has : (rs : Pairs) (c : ℕ) → Ascending rs → in_ranges (joined_from None rs) c ≡ in_ranges rs c
 all_has [] c h = refl
-all_has (r ∷ rs) c h = choose (λ l. Has c l (is_in_range c r || is_listed rs c)) (nat_lt r.1 r.0) _ _
-    (λ e. all_has rs c (tail_up r rs h) ∙ ap (λ b. b || is_listed rs c) (sym (empty_range c r e)))
+all_has (r ∷ rs) c h = choose (λ l. Has c l (is_in_range c r || in_ranges rs c)) (nat_lt r.1 r.0) _ _
+    (λ e. all_has rs c (tail_up r rs h) ∙ ap (λ b. b || in_ranges rs c) (sym (empty_range c r e)))
     (λ e. has rs r c (ltb-false r.1 r.0 e) h)
 
-pub are_ranges : (raw sorted ranges : Pairs) → IsPermutation raw sorted → Ascending sorted → ranges ≡ joined_from None sorted → AreRangesOf (λ c. is_listed raw c) ranges
+pub are_ranges : (raw sorted ranges : Pairs) → IsPermutation raw sorted → Ascending sorted → ranges ≡ joined_from None sorted → AreRangesOf (λ c. in_ranges raw c) ranges
 are_ranges raw sorted ranges p h e = record {
   separate = ap are_separate e ∙ all_separate sorted h;
-  same = λ c. ap (λ l. is_listed l c) e ∙ (all_has sorted c h ∙ sym (list_any-IsPermutation (is_in_range c) raw sorted p));
+  same = λ c. ap (λ l. in_ranges l c) e ∙ (all_has sorted c h ∙ sym (list_any-IsPermutation (is_in_range c) raw sorted p));
 }

@@ -2,7 +2,7 @@
 use Rattle.std.proofs.Common.{◌≡◌, ℕ, ◌+◌, ◌≤◌, ◌<◌, inl, inr, Bool, true, false, nat_le, ◌&&◌, ◌||◌, List, [], ◌∷◌, refl, sym, ◌∙◌, ap, subst, arith}
 use Rattle.std.proofs.lemmas.Bool.{leb-true, ltb-true, le-leb, cases_lt, cases_order}
 use Rattle.helix_base.specs.Alphabet.{is_in_range}
-use Rattle.helix_base.specs.Ranges.{is_listed}
+use Rattle.helix_base.specs.Ranges.{in_ranges}
 use Rattle.helix_expr.specs.declared.expr.Expr.{Chars}
 use Rattle.helix_expr.specs.declared.regex.Regex.{Regex}
 use Rattle.helix_regex.specs.Pattern.{Pattern, end, bar, caret, dollar, one, group}
@@ -34,7 +34,7 @@ pub is_within : (c : ℕ) (r : ℕ × ℕ) → r.0 ≤ c → c ≤ r.1 → is_in
 is_within c r a b = both_so (nat_le r.0 c) (nat_le c r.1) (le-leb r.0 c a) (le-leb c r.1 b)
 
 -- what is listed behind a range lies above it, and above one code more
-pub above : (r : ℕ × ℕ) (rs : Pairs) (c : ℕ) → are_separate (r ∷ rs) ≡ true → is_listed rs c ≡ true → r.1 + 1 < c
+pub above : (r : ℕ × ℕ) (rs : Pairs) (c : ℕ) → are_separate (r ∷ rs) ≡ true → in_ranges rs c ≡ true → r.1 + 1 < c
 above r [] c h e = cc
 above r (s ∷ rs) c h e = elim (either_of _ _ e) [
   | inl f ↦ let (low, high) = within c s f in let g : r.1 + 1 < s.0 = gap r s rs h in omega arith
@@ -45,24 +45,24 @@ above r (s ∷ rs) c h e = elim (either_of _ _ e) [
 ]
 
 -- the least code of a list is where its first range begins
-least : (r : ℕ × ℕ) (rs : Pairs) (c : ℕ) → are_separate (r ∷ rs) ≡ true → is_listed (r ∷ rs) c ≡ true → r.0 ≤ c
+least : (r : ℕ × ℕ) (rs : Pairs) (c : ℕ) → are_separate (r ∷ rs) ≡ true → in_ranges (r ∷ rs) c ≡ true → r.0 ≤ c
 least r rs c h e = elim (either_of _ _ e) [
   | inl f ↦ (within c r f).0
   | inr f ↦ let o : r.0 ≤ r.1 = ordered r rs h in let a : r.1 + 1 < c = above r rs c h f in omega arith
 ]
 
-listed_first : (r : ℕ × ℕ) (rs : Pairs) (c : ℕ) → r.0 ≤ c → c ≤ r.1 → is_listed (r ∷ rs) c ≡ true
-listed_first r rs c a b = ap (λ x. x || is_listed rs c) (is_within c r a b)
+listed_first : (r : ℕ × ℕ) (rs : Pairs) (c : ℕ) → r.0 ≤ c → c ≤ r.1 → in_ranges (r ∷ rs) c ≡ true
+listed_first r rs c a b = ap (λ x. x || in_ranges rs c) (is_within c r a b)
 
 -- a code just above a range is not listed
-not_listed : (r : ℕ × ℕ) (rs : Pairs) (c : ℕ) → are_separate (r ∷ rs) ≡ true → r.1 < c → c ≤ r.1 + 1 → is_listed (r ∷ rs) c ≡ true → ⊥
+not_listed : (r : ℕ × ℕ) (rs : Pairs) (c : ℕ) → are_separate (r ∷ rs) ≡ true → r.1 < c → c ≤ r.1 + 1 → in_ranges (r ∷ rs) c ≡ true → ⊥
 not_listed r rs c h low high e = elim (either_of _ _ e) [
   | inl f ↦ let (l, u) = within c r f in omega arith
   | inr f ↦ let a : r.1 + 1 < c = above r rs c h f in omega arith
 ]
 
 abbrev Same : Pairs → Pairs → Type 0
-Same rs ss = (c : ℕ) → is_listed rs c ≡ is_listed ss c
+Same rs ss = (c : ℕ) → in_ranges rs c ≡ in_ranges ss c
 
 first_ends : (r s : ℕ × ℕ) (rs ss : Pairs) → are_separate (r ∷ rs) ≡ true → are_separate (s ∷ ss) ≡ true → Same (r ∷ rs) (s ∷ ss) → r.0 ≡ s.0 → ¬ (r.1 < s.1)
 first_ends r s rs ss h k same e lt =
@@ -78,11 +78,11 @@ pair_same r s e f = let left : ℕ → ℕ × ℕ = λ x. (x, r.1) in let right 
 out_of_range : (c : ℕ) (r : ℕ × ℕ) → r.1 < c → is_in_range c r ≡ false
 out_of_range c r lt = bool_false (is_in_range c r) (λ e. let (l, u) = within c r e in omega arith)
 
-only_rest : (r : ℕ × ℕ) (rs : Pairs) (c : ℕ) → r.1 < c → is_listed (r ∷ rs) c ≡ is_listed rs c
-only_rest r rs c lt = ap (λ x. x || is_listed rs c) (out_of_range c r lt)
+only_rest : (r : ℕ × ℕ) (rs : Pairs) (c : ℕ) → r.1 < c → in_ranges (r ∷ rs) c ≡ in_ranges rs c
+only_rest r rs c lt = ap (λ x. x || in_ranges rs c) (out_of_range c r lt)
 
-none_below : (r : ℕ × ℕ) (rs : Pairs) (c : ℕ) → are_separate (r ∷ rs) ≡ true → c ≤ r.1 → is_listed rs c ≡ false
-none_below r rs c h le = bool_false (is_listed rs c) (λ e. let a : r.1 + 1 < c = above r rs c h e in omega arith)
+none_below : (r : ℕ × ℕ) (rs : Pairs) (c : ℕ) → are_separate (r ∷ rs) ≡ true → c ≤ r.1 → in_ranges rs c ≡ false
+none_below r rs c h le = bool_false (in_ranges rs c) (λ e. let a : r.1 + 1 < c = above r rs c h e in omega arith)
 
 rest_same : (r : ℕ × ℕ) (rs ss : Pairs) → are_separate (r ∷ rs) ≡ true → are_separate (r ∷ ss) ≡ true → Same (r ∷ rs) (r ∷ ss) → Same rs ss
 rest_same r rs ss h k same c = elim (cases_lt r.1 c) [

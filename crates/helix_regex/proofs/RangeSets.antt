@@ -2,7 +2,7 @@
 use Rattle.std.proofs.Common.{◌≡◌, ℕ, ◌+◌, ◌-◌, ◌≤◌, ◌<◌, ◌⊎◌, inl, inr, min, max, Bool, true, false, ◌||◌, ◌&&◌, not, ◌==◌, ◌≢◌, eq-eqb, nat_le, nat_lt, get_or, drop-cons, add-one, List, [], ◌∷◌, ◌++◌, length, drop, refl, sym, ◌∙◌, ap, subst, arith}
 use Rattle.std.proofs.lemmas.Bool.{leb-true, le-leb, ltb-true, lt-ltb, eqb-true, cases_lt, cond-false}
 use Rattle.std.proofs.lemmas.List.{drop_all}
-use Rattle.helix_base.specs.Ranges.{is_listed}
+use Rattle.helix_base.specs.Ranges.{in_ranges}
 use Rattle.helix_base.specs.Alphabet.{is_in_range}
 use Rattle.helix_regex.specs.Characters.{is_character, is_word, set_has}
 use Rattle.helix_regex.specs.Meaning.{are_separate}
@@ -26,21 +26,21 @@ pub or-false : (a : Bool) → (a || false) ≡ a
 or-false true = refl
 or-false false = refl
 
-listed-append : (xs ys : Pairs) (c : ℕ) → is_listed (xs ++ ys) c ≡ (is_listed xs c || is_listed ys c)
+listed-append : (xs ys : Pairs) (c : ℕ) → in_ranges (xs ++ ys) c ≡ (in_ranges xs c || in_ranges ys c)
 listed-append [] ys c = refl
-listed-append (x ∷ xs) ys c = ap (λ b. is_in_range c x || b) (listed-append xs ys c) ∙ sym (or-assoc (is_in_range c x) (is_listed xs c) (is_listed ys c))
+listed-append (x ∷ xs) ys c = ap (λ b. is_in_range c x || b) (listed-append xs ys c) ∙ sym (or-assoc (is_in_range c x) (in_ranges xs c) (in_ranges ys c))
 
-listed-push : (xs : Pairs) (r : ℕ × ℕ) (c : ℕ) → is_listed (xs ++ r ∷ []) c ≡ (is_listed xs c || is_in_range c r)
-listed-push xs r c = listed-append xs (r ∷ []) c ∙ ap (λ b. is_listed xs c || b) (or-false (is_in_range c r))
+listed-push : (xs : Pairs) (r : ℕ × ℕ) (c : ℕ) → in_ranges (xs ++ r ∷ []) c ≡ (in_ranges xs c || is_in_range c r)
+listed-push xs r c = listed-append xs (r ∷ []) c ∙ ap (λ b. in_ranges xs c || b) (or-false (is_in_range c r))
 
 pub listed_more : (xs ys : Pairs) (f l : ℕ) → ys ≡ xs ++ (f, l) ∷ [] → Gains (λ c. is_in_range c (f, l)) xs ys
-listed_more xs ys f l e = record { all = λ c. ap (λ zs. is_listed zs c) e ∙ listed-push xs (f, l) c }
+listed_more xs ys f l e = record { all = λ c. ap (λ zs. in_ranges zs c) e ∙ listed-push xs (f, l) c }
 
 pub gains_both : (s t : ℕ → Bool) (xs ys zs : Pairs) → Gains s xs ys → Gains t ys zs → Gains (λ c. s c || t c) xs zs
-gains_both s t xs ys zs h k = record { all = λ c. k.all c ∙ (ap (λ b. b || t c) (h.all c) ∙ or-assoc (is_listed xs c) (s c) (t c)) }
+gains_both s t xs ys zs h k = record { all = λ c. k.all c ∙ (ap (λ b. b || t c) (h.all c) ∙ or-assoc (in_ranges xs c) (s c) (t c)) }
 
 pub gains_same : (s t : ℕ → Bool) (xs ys : Pairs) → ((c : ℕ) → s c ≡ t c) → Gains s xs ys → Gains t xs ys
-gains_same s t xs ys e h = record { all = λ c. h.all c ∙ ap (λ b. is_listed xs c || b) (e c) }
+gains_same s t xs ys e h = record { all = λ c. h.all c ∙ ap (λ b. in_ranges xs c || b) (e c) }
 
 both_so : (a b : Bool) → a ≡ true → b ≡ true → (a && b) ≡ true
 both_so a b e f = ap (λ x. x && b) e ∙ f
@@ -97,12 +97,12 @@ BeginFrom n (r ∷ rs) = n ≤ r.0
 
 -- what is still to be gained: characters from a code on that are in none of the ranges left
 abbrev pub left : ℕ → Pairs → ℕ → Bool
-left n rs c = is_character c && (nat_le n c && not (is_listed rs c))
+left n rs c = is_character c && (nat_le n c && not (in_ranges rs c))
 
 pub record GapsLeft (n : ℕ) (rs all old new : Pairs) : Type 0 where
   pub separate : are_separate rs ≡ true
   pub begin : BeginFrom n rs
-  pub same : (c : ℕ) → (is_listed new c || left n rs c) ≡ (is_listed old c || (is_character c && not (is_listed all c)))
+  pub same : (c : ℕ) → (in_ranges new c || left n rs c) ≡ (in_ranges old c || (is_character c && not (in_ranges all c)))
 
 no_gain : (a b : Bool) → b ≡ false → (a || b) ≡ a
 no_gain a b e = ap (λ x. a || x) e ∙ or-false a
@@ -116,32 +116,32 @@ outside_high c r lt = bool_false (is_in_range c r) (λ e. let (a, b) = within c 
 not_below : (n c : ℕ) → c < n → nat_le n c ≡ false
 not_below n c lt = bool_false (nat_le n c) (λ e. let h : n ≤ c = leb-true n c e in omega arith)
 
-none_listed : (r : ℕ × ℕ) (rs : Pairs) (c : ℕ) → are_separate (r ∷ rs) ≡ true → c ≤ r.1 → is_listed rs c ≡ false
-none_listed r rs c h le = bool_false (is_listed rs c) (λ e. let a : r.1 + 1 < c = above r rs c h e in omega arith)
+none_listed : (r : ℕ × ℕ) (rs : Pairs) (c : ℕ) → are_separate (r ∷ rs) ≡ true → c ≤ r.1 → in_ranges rs c ≡ false
+none_listed r rs c h le = bool_false (in_ranges rs c) (λ e. let a : r.1 + 1 < c = above r rs c h e in omega arith)
 
 -- what is left from a code on, at a range and behind it
 abbrev Step : ℕ → ℕ → ℕ × ℕ → Pairs → ℕ → Bool → Type 0
-Step n m r rs c pushed = (pushed || (nat_le m c && not (is_listed rs c))) ≡ (nat_le n c && not (is_in_range c r || is_listed rs c))
+Step n m r rs c pushed = (pushed || (nat_le m c && not (in_ranges rs c))) ≡ (nat_le n c && not (is_in_range c r || in_ranges rs c))
 
 gap_step : (n m : ℕ) (r : ℕ × ℕ) (rs : Pairs) (c : ℕ) (pushed : Bool) → are_separate (r ∷ rs) ≡ true → n ≤ r.0
     → (m ≤ c → r.1 < c) → (r.1 < c → m ≤ c) → ((n ≤ c) × (c < r.0) → pushed ≡ true) → ((c < n) ⊎ (r.0 ≤ c) → pushed ≡ false) → Step n m r rs c pushed
 gap_step n m r rs c pushed h begin low high yes_pushed no_pushed =
     let o : r.0 ≤ r.1 = ordered r rs h in
     elim (cases_lt c n) [
-      | inl below ↦ ap (λ b. b || (nat_le m c && not (is_listed rs c))) (no_pushed (inl below))
-          ∙ (ap (λ b. b && not (is_listed rs c)) (bool_false (nat_le m c) (λ e. let f : r.1 < c = low (leb-true m c e) in omega arith))
-          ∙ sym (ap (λ b. b && not (is_in_range c r || is_listed rs c)) (not_below n c below)))
+      | inl below ↦ ap (λ b. b || (nat_le m c && not (in_ranges rs c))) (no_pushed (inl below))
+          ∙ (ap (λ b. b && not (in_ranges rs c)) (bool_false (nat_le m c) (λ e. let f : r.1 < c = low (leb-true m c e) in omega arith))
+          ∙ sym (ap (λ b. b && not (is_in_range c r || in_ranges rs c)) (not_below n c below)))
       | inr from ↦ (elim (cases_lt c r.0) [
-        | inl before ↦ ap (λ b. b || (nat_le m c && not (is_listed rs c))) (yes_pushed (from, before))
-            ∙ sym (ap (λ b. b && not (is_in_range c r || is_listed rs c)) (le-leb n c from)
-            ∙ (ap (λ b. not (b || is_listed rs c)) (outside_low c r before) ∙ ap not (none_listed r rs c h (omega arith))))
+        | inl before ↦ ap (λ b. b || (nat_le m c && not (in_ranges rs c))) (yes_pushed (from, before))
+            ∙ sym (ap (λ b. b && not (is_in_range c r || in_ranges rs c)) (le-leb n c from)
+            ∙ (ap (λ b. not (b || in_ranges rs c)) (outside_low c r before) ∙ ap not (none_listed r rs c h (omega arith))))
         | inr reached ↦ (elim (cases_lt r.1 c) [
-          | inl behind ↦ ap (λ b. b || (nat_le m c && not (is_listed rs c))) (no_pushed (inr reached))
-              ∙ (ap (λ b. b && not (is_listed rs c)) (le-leb m c (high behind))
-              ∙ sym (ap (λ b. b && not (is_in_range c r || is_listed rs c)) (le-leb n c from) ∙ ap (λ b. not (b || is_listed rs c)) (outside_high c r behind)))
-          | inr inside ↦ ap (λ b. b || (nat_le m c && not (is_listed rs c))) (no_pushed (inr reached))
-              ∙ (ap (λ b. b && not (is_listed rs c)) (bool_false (nat_le m c) (λ e. let f : r.1 < c = low (leb-true m c e) in omega arith))
-              ∙ sym (ap (λ b. b && not (is_in_range c r || is_listed rs c)) (le-leb n c from) ∙ ap (λ b. not (b || is_listed rs c)) (is_within c r reached inside)))
+          | inl behind ↦ ap (λ b. b || (nat_le m c && not (in_ranges rs c))) (no_pushed (inr reached))
+              ∙ (ap (λ b. b && not (in_ranges rs c)) (le-leb m c (high behind))
+              ∙ sym (ap (λ b. b && not (is_in_range c r || in_ranges rs c)) (le-leb n c from) ∙ ap (λ b. not (b || in_ranges rs c)) (outside_high c r behind)))
+          | inr inside ↦ ap (λ b. b || (nat_le m c && not (in_ranges rs c))) (no_pushed (inr reached))
+              ∙ (ap (λ b. b && not (in_ranges rs c)) (bool_false (nat_le m c) (λ e. let f : r.1 < c = low (leb-true m c e) in omega arith))
+              ∙ sym (ap (λ b. b && not (is_in_range c r || in_ranges rs c)) (le-leb n c from) ∙ ap (λ b. not (b || in_ranges rs c)) (is_within c r reached inside)))
         ])
       ])
     ]
@@ -172,8 +172,8 @@ step_same : (n m : ℕ) (r : ℕ × ℕ) (rs all old new next : Pairs) (pushed :
 step_same n m r rs all old new next pushed h g step begin = record {
   separate = tail r rs h.separate;
   begin = begin;
-  same = λ c. ap (λ b. b || left m rs c) (g.all c) ∙ (spread (is_listed new c) (is_character c) (pushed c) (nat_le m c && not (is_listed rs c))
-      ∙ (ap (λ b. is_listed new c || b) (on_characters (is_character c) _ _ (step c)) ∙ h.same c));
+  same = λ c. ap (λ b. b || left m rs c) (g.all c) ∙ (spread (in_ranges new c) (is_character c) (pushed c) (nat_le m c && not (in_ranges rs c))
+      ∙ (ap (λ b. in_ranges new c || b) (on_characters (is_character c) _ _ (step c)) ∙ h.same c));
 }
 
 begins : (m : ℕ) (r : ℕ × ℕ) (rs : Pairs) → are_separate (r ∷ rs) ≡ true → m ≤ r.1 + 1 → BeginFrom m rs
@@ -199,7 +199,7 @@ pub gap_some : (n top : ℕ) (old new : Pairs) → n < top → Gains (λ c. is_c
 gap_some n top old new lt h = gains_same (λ c. is_character c && is_in_range c (n, top - 1)) (λ c. is_character c && gap_has n top c) old new (λ c. ap (λ b. is_character c && b) (gap_range n top c lt)) h
 
 pub gap_none : (n top : ℕ) (old : Pairs) → top ≤ n → Gains (λ c. is_character c && (nat_le n c && nat_lt c top)) old old
-gap_none n top old le = record { all = λ c. sym (no_gain (is_listed old c) (is_character c && gap_has n top c) (ap (λ b. is_character c && b) (gap_no n top c (empty_gap n top c le)) ∙ and-false (is_character c))) }
+gap_none n top old le = record { all = λ c. sym (no_gain (in_ranges old c) (is_character c && gap_has n top c) (ap (λ b. is_character c && b) (gap_no n top c (empty_gap n top c le)) ∙ and-false (is_character c))) }
 
 pub gaps_next : (n m limit i : ℕ) (d : ℕ × ℕ) (all old new next : Pairs) → i < length all → m ≡ min ((get_or all i d).1 + 1) limit → 0x10FFFF < limit → GapsLeft n (drop i all) all old new
     → Gains (λ c. is_character c && (nat_le n c && nat_lt c (get_or all i d).0)) new next → GapsLeft m (drop (i + 1) all) all old next
@@ -214,7 +214,7 @@ gaps_next n m limit i d all old new next lt e big h g =
     (begins m r rs k.separate (omega arith))
 
 pub gaps_start : (all old : Pairs) → are_separate all ≡ true → GapsLeft 0 all all old old
-gaps_start all old h = record { separate = h; begin = from_zero all; same = λ c. ap (λ b. is_listed old c || (is_character c && (b && not (is_listed all c)))) (le-leb 0 c (omega arith)) }
+gaps_start all old h = record { separate = h; begin = from_zero all; same = λ c. ap (λ b. in_ranges old c || (is_character c && (b && not (in_ranges all c)))) (le-leb 0 c (omega arith)) }
 
 to_end : (c n : ℕ) → c ≤ 0x10FFFF → (nat_le n c && nat_lt c 0x110000) ≡ (nat_le n c && not false)
 to_end c n le = ap (λ b. nat_le n c && b) (lt-ltb c 0x110000 (omega arith))
@@ -222,7 +222,7 @@ to_end c n le = ap (λ b. nat_le n c && b) (lt-ltb c 0x110000 (omega arith))
 pub gaps_end : (n i : ℕ) (all old new next : Pairs) → length all ≤ i → GapsLeft n (drop i all) all old new → Gains (λ c. is_character c && (nat_le n c && nat_lt c 0x110000)) new next → GainsAllBut all old next
 gaps_end n i all old new next le h g =
     let k : GapsLeft n [] all old new = subst (λ l. GapsLeft n l all old new) (drop_all i all le) h in
-    record { all = λ c. g.all c ∙ (ap (λ b. is_listed new c || b) (on_characters (is_character c) (nat_le n c && nat_lt c 0x110000) (nat_le n c && not false) (λ is. to_end c n (highest c is))) ∙ k.same c) }
+    record { all = λ c. g.all c ∙ (ap (λ b. in_ranges new c || b) (on_characters (is_character c) (nat_le n c && nat_lt c 0x110000) (nat_le n c && not false) (λ is. to_end c n (highest c is))) ∙ k.same c) }
 
 -- one code as a range
 one_code : (c d : ℕ) → is_in_range c (d, d) ≡ (c == d)
@@ -258,7 +258,7 @@ four false false true false = refl
 four false false false true = refl
 four false false false false = refl
 
-listed_word : (c : ℕ) → is_listed ((48, 57) ∷ (65, 90) ∷ (95, 95) ∷ (97, 122) ∷ []) c ≡ is_word c
+listed_word : (c : ℕ) → in_ranges ((48, 57) ∷ (65, 90) ∷ (95, 95) ∷ (97, 122) ∷ []) c ≡ is_word c
 listed_word c = ap (λ b. is_in_range c (48, 57) || (is_in_range c (65, 90) || (b || (is_in_range c (97, 122) || false)))) (one_code c 95)
     ∙ four (is_in_range c (48, 57)) (is_in_range c (65, 90)) (c == 95) (is_in_range c (97, 122))
 

@@ -1,6 +1,6 @@
 -- What each token adds to the expression that is built. Only the crate's private clauses cite it.
 use Rattle.std.specs.Prelude.{◌≡◌, ℕ, ◌==◌, ◌&&◌, not, Bool, true, false, List, [], ◌∷◌, ◌++◌}
-use Rattle.helix_base.specs.Ranges.{is_listed}
+use Rattle.helix_base.specs.Ranges.{in_ranges}
 use Rattle.helix_base.specs.Alphabet.{is_in_range}
 use Rattle.helix_expr.specs.declared.expr.Expr.{Expr, Empty, Chars}
 use Rattle.helix_expr.specs.declared.expr.Expr.TheViews.{Alt, Repeat}
@@ -45,8 +45,8 @@ pub record Gained (set : ℕ → Bool) (old new : Builder) : Type 0 where
   pub excluded : new.excluded ≡ old.excluded
 
 abbrev pub class_has : Bool → List (ℕ × ℕ) → ℕ → Bool
-class_has true raw c = is_character c && not (is_listed raw c)
-class_has false raw c = is_listed raw c
+class_has true raw c = is_character c && not (in_ranges raw c)
+class_has false raw c = in_ranges raw c
 
 pub record Begins (old new : Builder) : Type 0 where
   pub same : Same old new

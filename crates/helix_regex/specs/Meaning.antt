@@ -1,7 +1,7 @@
 -- The expression that a pattern stands for, over the characters of Unicode.
 use Rattle.std.specs.Prelude.{◌≡◌, ℕ, ◌+◌, ◌*◌, ◌-◌, ◌==◌, ◌&&◌, ◌||◌, not, nat_le, nat_lt, Bool, true, false, IsTrue, Some, None, List, [], ◌∷◌}
 use Rattle.std.specs.List.{list_any}
-use Rattle.helix_base.specs.Ranges.{is_listed}
+use Rattle.helix_base.specs.Ranges.{in_ranges}
 use Rattle.helix_expr.specs.declared.expr.Expr.{Expr, Empty, Chars}
 use Rattle.helix_expr.specs.declared.expr.Expr.TheViews.{Seq, Alt, Repeat}
 use Rattle.helix_expr.specs.declared.regex.Regex.{Regex}
@@ -36,7 +36,7 @@ are_separate (r ∷ next ∷ ranges) = (nat_le r.0 r.1 && nat_lt (r.1 + 1) next.
 -- the ranges of a set of characters: each set has one such list
 pub record AreRangesOf (has : ℕ → Bool) (ranges : List (ℕ × ℕ)) : Type 0 where
   pub separate : IsTrue (are_separate ranges)
-  pub same : (c : ℕ) → is_listed ranges c ≡ has c
+  pub same : (c : ℕ) → in_ranges ranges c ≡ has c
 
 -- the number that digits write, in tens
 abbrev pub number_behind : ℕ → List ℕ → ℕ

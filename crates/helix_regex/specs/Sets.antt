@@ -1,15 +1,15 @@
 -- Sets of characters as lists of ranges. Only the crate's private clauses cite it.
 use Rattle.std.specs.Prelude.{◌≡◌, ℕ, ◌-◌, ◌≤◌, max, nat_le, nat_lt, ◌||◌, ◌&&◌, not, if◌then◌else◌, Bool, Option, Some, None, List, [], ◌∷◌}
-use Rattle.helix_base.specs.Ranges.{is_listed}
+use Rattle.helix_base.specs.Ranges.{in_ranges}
 use Rattle.helix_regex.specs.Characters.{is_character}
 
 -- a list has what another has, and a set besides
 pub record Gains (set : ℕ → Bool) (old new : List (ℕ × ℕ)) : Type 0 where
-  pub all : (c : ℕ) → is_listed new c ≡ (is_listed old c || set c)
+  pub all : (c : ℕ) → in_ranges new c ≡ (in_ranges old c || set c)
 
 -- all characters but those of some ranges
 abbrev pub GainsAllBut : List (ℕ × ℕ) → List (ℕ × ℕ) → List (ℕ × ℕ) → Type 0
-GainsAllBut ranges old new = Gains (λ c. is_character c && not (is_listed ranges c)) old new
+GainsAllBut ranges old new = Gains (λ c. is_character c && not (in_ranges ranges c)) old new
 
 -- no range begins before the one in front of it
 abbrev pub Ascending : List (ℕ × ℕ) → Type 0

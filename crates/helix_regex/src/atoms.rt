@@ -2,7 +2,7 @@
 
 ghost use Rattle.std.specs.Prelude.{◌≡◌, ◌==◌, ◌&&◌, not, true, IfOk};
 ghost use Rattle.helix_base.specs.Alphabet.{is_in_range};
-ghost use Rattle.helix_base.specs.Ranges.{is_listed};
+ghost use Rattle.helix_base.specs.Ranges.{in_ranges};
 ghost use Rattle.helix_regex.specs.Characters.{is_character, set_has};
 ghost use Rattle.helix_regex.specs.Meaning.{are_separate, AreRangesOf};
 ghost use Rattle.helix_regex.specs.Building.{class_has, PushesSet, Gained};
@@ -16,7 +16,7 @@ use helix_base::Memory;
 use std::alloc::Global;
 
 fn push_chars(alloc: Global, builder: Builder, raw: Vec<(u32, u32)>) -> Result<Builder, Memory>
-    ensures { IfOk result (PushesSet (λ c. is_listed raw.items c) builder) }
+    ensures { IfOk result (PushesSet (λ c. in_ranges raw.items c) builder) }
 {
     let ranges = separated(alloc, raw)?;
     push_piece(builder, Expr::Chars(ranges))
@@ -52,7 +52,7 @@ pub fn end_class(alloc: Global, builder: Builder) -> Result<Builder, Memory>
 /// The separate ranges of all other characters.
 fn outside(alloc: Global, listed: Ranges) -> Result<Ranges, Memory>
     requires { are_separate listed ≡ true }
-    ensures { IfOk result (AreRangesOf (λ c. is_character c && not (is_listed listed c))) }
+    ensures { IfOk result (AreRangesOf (λ c. is_character c && not (in_ranges listed c))) }
 {
     let mut raw = Vec::new(alloc);
     push_gaps(&mut raw, listed.as_slice())?;

@@ -1,7 +1,7 @@
 //! The separate ranges of a set.
 
 ghost use Rattle.std.specs.Prelude.{◌≡◌, ℕ, ◌++◌, ◌||◌, nat_le, nat_lt, None, Some, IfOk, IsPermutation};
-ghost use Rattle.helix_base.specs.Ranges.{is_listed};
+ghost use Rattle.helix_base.specs.Ranges.{in_ranges};
 ghost use Rattle.helix_regex.specs.Meaning.{AreRangesOf};
 ghost use Rattle.helix_regex.specs.Sets.{Ascending, touches, joined, joined_from};
 
@@ -53,7 +53,7 @@ fn joined(alloc: Global, sorted: &[(u32, u32)]) -> Result<Ranges, Memory>
 
 /// The separate ranges of a set that is listed in any order.
 pub fn separated(alloc: Global, raw: Vec<(u32, u32)>) -> Result<Ranges, Memory>
-    ensures { IfOk result (AreRangesOf (λ c. is_listed raw.items c)) }
+    ensures { IfOk result (AreRangesOf (λ c. in_ranges raw.items c)) }
 {
     let mut sorted = raw;
     sort_ranges(&mut sorted);

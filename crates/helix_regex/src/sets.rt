@@ -1,7 +1,7 @@
 //! Sets of characters, as ranges in any order that may overlap, and as those that are separate.
 
 ghost use Rattle.std.specs.Prelude.{◌≡◌, ◌==◌, ℕ, ◌||◌, ◌&&◌, not, true, nat_le, nat_lt, OnOk, IfOk, IsTrue, IsOk};
-ghost use Rattle.helix_base.specs.Ranges.{is_listed};
+ghost use Rattle.helix_base.specs.Ranges.{in_ranges};
 ghost use Rattle.helix_base.specs.Alphabet.{is_in_range};
 ghost use Rattle.helix_regex.specs.Characters.{is_character, is_word, set_has};
 ghost use Rattle.helix_regex.specs.Meaning.{are_separate, AreRangesOf};

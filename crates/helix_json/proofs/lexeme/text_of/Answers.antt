@@ -1,5 +1,5 @@
 use Rattle.std.proofs.Common.{arith}
-use Rattle.helix_base.proofs.Scalars.{scalar_at}
+use Rattle.helix_base.specs.Inner.ScalarLaws.{scalar_at}
 use Rattle.helix_json.proofs.lexeme.text_of.Goals as goal
 
 pub push-requires : goal.push-requires

@@ -1,4 +1,4 @@
-use Rattle.helix_base.proofs.Scalars.{all_scalars-push}
+use Rattle.helix_base.specs.Inner.ScalarLaws.{all_scalars-push}
 use Rattle.helix_base.proofs.text.Text.push.Goals as goal
 
 pub invariant_of-self-2 : goal.invariant_of-self-2
