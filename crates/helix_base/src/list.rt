@@ -1,6 +1,6 @@
 //! The list type of all crates.
 
-ghost use Rattle.std.specs.Prelude.{◌≡◌, [], ◌∷◌, ◌++◌, IfOk, OnErr, OnOk};
+ghost use Rattle.std.specs.Prelude.{◌≡◌, [], ◌∷◌, ◌++◌, ◌<◌, Some, length, slice_get, slice_set, IfOk, OnErr, OnOk};
 
 use crate::copy::TryCopy;
 use crate::memory::Memory;
@@ -43,6 +43,11 @@ impl<T> List<T> {
     {
         self.items.as_slice()
     }
+
+    /// The allocator that the list grows by. Contracts see none of allocators.
+    pub fn allocator(&self) -> Global {
+        *self.items.allocator()
+    }
 }
 
 impl<T: Drop> List<T> {
@@ -52,6 +57,25 @@ impl<T: Drop> List<T> {
         ensures err { OnErr result (self.new ≡ self.old) }
     {
         self.items.push(item)?;
+        Ok(())
+    }
+
+    /// Puts an item in the place of another one, and hands that back.
+    pub fn replace(&mut self, index: usize, item: T) -> T
+        requires { index < length self.old }
+        ensures old { slice_get self.old index ≡ Some result }
+        ensures new { self.new ≡ slice_set self.old index item }
+    {
+        std::mem::replace(&mut self.items[index], item)
+    }
+
+    /// Moves the items of another list to the end of this one. On `Err`, this one is unchanged.
+    pub fn append(&mut self, more: List<T>) -> Result<(), Memory>
+        ensures ok { OnOk result (self.new ≡ self.old ++ more) }
+        ensures err { OnErr result (self.new ≡ self.old) }
+    {
+        let List { mut items } = more;
+        self.items.append(&mut items)?;
         Ok(())
     }
 }

@@ -1,7 +1,7 @@
 -- What a console in memory is, and what a line does there beside what it does on every console.
 use Rattle.std.specs.Prelude.{◌≡◌, ℕ, ◌+◌, ◌≤◌, true, List, [], Contains, Result, IsErr, OnErr, refl}
 use Rattle.std.specs.Coded.{Coded, code_by, coded×, coded_ℕ, coded_list}
-use Rattle.helix_outside.specs.Counting.{raised}
+use Rattle.helix_base.specs.Count.{raised}
 use Rattle.helix_outside.specs.Console.{Screen}
 
 pub record ConsoleInMemory : Type 0 where
@@ -22,9 +22,9 @@ blank failing = record { text = []; faults = 0; calls = 0; failing = failing }
 -- every call has the next number and fails where it is listed; a call that fails adds nothing, and counts one fault at
 -- most
 pub record IsLine {T E : Type 0} (old : ConsoleInMemory) (result : Result T E) (new : ConsoleInMemory) : Type 0 where
-  pub numbered : new.calls ≡ raised old.calls 1
+  pub numbered : new.calls ≡ raised old.calls
   pub listed : new.failing ≡ old.failing
-  pub due : Contains old.failing (raised old.calls 1) → IsErr result
+  pub due : Contains old.failing (raised old.calls) → IsErr result
   pub one_fault : new.faults ≤ old.faults + 1
   pub none : OnErr result (new.text ≡ old.text)
 

@@ -2,7 +2,7 @@
 use Rattle.std.specs.Prelude.{◌≡◌, ℕ, ◌+◌, ◌≤◌, true, List, Option, None, Contains, Result, IsErr, refl}
 use Rattle.std.specs.Coded.{Coded, code_by, coded×, coded_ℕ, coded_list, coded_option}
 use Rattle.std.specs.FinMap as map
-use Rattle.helix_outside.specs.Counting.{raised}
+use Rattle.helix_base.specs.Count.{raised}
 use Rattle.helix_outside.specs.Files.{FileMap}
 use Rattle.helix_outside.specs.Disk.{DiskState}
 
@@ -43,11 +43,11 @@ opened files failing = record {
 
 -- the next call is one of those that fail
 abbrev pub IsDue : DiskInMemory → Type 0
-IsDue disk = Contains disk.failing (raised disk.calls 1)
+IsDue disk = Contains disk.failing (raised disk.calls)
 
 -- what every call does: it has the next number, fails where it is listed, and counts one fault at most
 pub record IsCall {T E : Type 0} (old : DiskInMemory) (result : Result T E) (new : DiskInMemory) : Type 0 where
-  pub numbered : new.calls ≡ raised old.calls 1
+  pub numbered : new.calls ≡ raised old.calls
   pub listed : new.failing ≡ old.failing
   pub due : IsDue old → IsErr result
   pub one_read_fault : new.read_faults ≤ old.read_faults + 1

@@ -1,5 +1,4 @@
 pub mod Count
-pub mod Counting
 pub mod Files
 pub mod FileLaws
 pub mod Disk

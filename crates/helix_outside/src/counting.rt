@@ -1,14 +1,14 @@
 //! Counters of calls and of faults, and the calls that are to fail.
 
 ghost use Rattle.std.specs.Prelude.{◌≡◌, ◌+◌, ◌≤◌, ◌↔◌, Contains, IsTrue};
-ghost use Rattle.helix_outside.specs.Counting.{raised};
+ghost use Rattle.helix_base.specs.Count.{raised};
 
 use crate::disk::Failed;
 
 /// Counts one more call, and answers whether its number is among those that fail.
 pub(crate) fn next_call(failing: &[u64], calls: &mut u64) -> bool
-    ensures counted { calls.new ≡ raised calls.old 1 }
-    ensures listed { IsTrue result ↔ Contains failing.now (raised calls.old 1) }
+    ensures counted { calls.new ≡ raised calls.old }
+    ensures listed { IsTrue result ↔ Contains failing.now (raised calls.old) }
 {
     *calls = calls.saturating_add(1);
     failing.contains(calls)
@@ -16,7 +16,7 @@ pub(crate) fn next_call(failing: &[u64], calls: &mut u64) -> bool
 
 /// Counts a fault.
 pub(crate) fn fault(count: &mut u64) -> Failed
-    ensures value { count.new ≡ raised count.old 1 }
+    ensures value { count.new ≡ raised count.old }
     ensures grows { count.old ≤ count.new }
     ensures one { count.new ≤ count.old + 1 }
 {

@@ -1,7 +1,7 @@
 //! A disk that never fails, and keeps nothing of what is written.
 
-ghost use Rattle.std.specs.Prelude.{◌≡◌, ◌++◌, [], Some, length, min, take, drop, IsSome, IfOk, unwrap_or};
-ghost use Rattle.helix_outside.specs.Counting.{raised};
+ghost use Rattle.std.specs.Prelude.{◌≡◌, ◌+◌, ◌++◌, [], Some, length, min, take, drop, IsSome, IfOk, unwrap_or};
+ghost use Rattle.helix_base.specs.Count.{last_count};
 ghost use Rattle.helix_outside.specs.Disk.{BeginsRead, ReadsSome, BeginsWrite, WritesSome, Finishes};
 ghost use Rattle.helix_outside.specs.SteadyDisk.{steady_state, steady, reading, NeverFails};
 
@@ -114,7 +114,7 @@ impl Disk for SteadyDisk {
         ensures meaning { WritesSome (steady_state self.old) bytes.now result (steady_state self.new) }
         ensures passes { NeverFails self.old result self.new }
         ensures whole { IfOk result (λ n. n ≡ length bytes.now) }
-        ensures written { self.new.written ≡ raised self.old.written (length bytes.now) }
+        ensures written { self.new.written ≡ min (self.old.written + length bytes.now) last_count }
     {
         self.written = self.written.saturating_add(bytes.len() as u64);
         Ok(bytes.len())

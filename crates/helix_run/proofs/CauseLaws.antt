@@ -54,7 +54,7 @@ module _ (words : List (List ℕ)) (old new : DiskState) where
       ⊎ OutputIsThere words old
   write_cause failed write =
       raised_or (is_taken old write.names.output false) old.write_faults new.write_faults
-          (output_is_there words old write.names write.ordered) write.written.write_faults.failed
+      (output_is_there words old write.names write.ordered) write.written.write_faults.failed
 
   profile_is_read : {result : Result (Unit {0}) Failed} → KnownWrite words old result new → IsTrue old.told
       → ProfileIsRead words old.files
@@ -65,7 +65,7 @@ module _ (words : List (List ℕ)) (old new : DiskState) where
       let same : Some write.names ≡ Some there.names = sym write.ordered ∙ there.ordered in
       let names : write.names ≡ there.names = cc in
       let none : get old.files there.names.output ≡ None = ap (λ n. get old.files n.output) (sym names)
-          ∙ write.written.was_absent there.told in
+      ∙ write.written.was_absent there.told in
       let some : is_some (get old.files there.names.output) ≡ true = there.there in
       absurd (let e : is_some {T = List ℕ} None ≡ true = ap is_some (sym none) ∙ some in cc)
 
@@ -94,8 +94,10 @@ module _ (words : List (List ℕ)) (old new : DiskState) (before after : Screen)
   }
   cause_for (Done count) (Ok x) (write, counted) added = record {
     ordered = ordered_some words write.names write.ordered;
-    disk = record { read = omega (arith, write.written.read_faults);
-        write = omega (arith, write.written.write_faults.ok) };
+    disk = record {
+      read = omega (arith, write.written.read_faults);
+      write = omega (arith, write.written.write_faults.ok);
+    };
     console = omega (arith, added.faults.ok);
     accepted = profile_is_read words old new write;
     absent = output_absent words old new write;
@@ -111,4 +113,4 @@ module _ (words : List (List ℕ)) (old new : DiskState) (before after : Screen)
       → Tells outcome before answer after → Cause words (environment old before) answer (environment new after)
   Cause-run outcome answer end tells =
       subst (λ s. Cause words (environment old before) s (environment new after)) (sym tells.status)
-          (cause_for outcome tells.result (known words old new outcome end) tells.added)
+      (cause_for outcome tells.result (known words old new outcome end) tells.added)

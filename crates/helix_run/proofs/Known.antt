@@ -23,8 +23,7 @@ pub record SameDisk (old new : DiskState) : Type 0 where
   pub read_faults : new.read_faults ≡ old.read_faults
 
 -- the text of an accepted profile was to be written
-pub record KnownWrite (words : List (List ℕ)) (old : DiskState) (result : Result (Unit {0}) Failed) (new : DiskState) :
-    Type 0 where
+pub record KnownWrite (words : List (List ℕ)) (old : DiskState) (result : Result (Unit {0}) Failed) (new : DiskState) : Type 0 where
   pub names : Names
   pub field : Field
   pub rows : List (List Flag)
@@ -53,7 +52,7 @@ whole_if_read bytes whole field is reads =
 refused_if_front : (bytes whole : List ℕ) → bytes ≡ take read_limit whole → IsRefused bytes → IsRefused whole
 refused_if_front bytes whole is refused field reads =
     refused field (subst (λ b. ReadsProfile b field) (sym (is ∙ take_all read_limit whole (omega (arith, reads.size))))
-        reads)
+    reads)
 
 on_ok : {T E P Q : Type 0} (r : Result T E) → (P → Q) → OnOk r P → OnOk r Q
 on_ok (Ok x) f p = f p
@@ -71,13 +70,13 @@ writes_from old now new name text result same writes =
     let files : now.files ≡ old.files = same.only_reads.files in
     let taken : is_taken now name false ≡ is_taken old name false =
     ap (λ b. b && (true && is_some (get now.files name))) told
-        ∙ ap (λ f. old.told && (true && is_some (get f name))) files in
+    ∙ ap (λ f. old.told && (true && is_some (get f name))) files in
     record {
       told = writes.told ∙ told;
       read_faults = writes.read_faults ∙ same.read_faults;
       write_faults = subst (λ b. Counts result b old.write_faults new.write_faults) taken
           (subst (λ n. Counts result (is_taken now name false) n new.write_faults) same.only_reads.write_faults
-              writes.write_faults);
+          writes.write_faults);
       was_absent = on_ok result (λ absent t. ap (λ f. get f name) (sym files) ∙ absent (told ∙ t)) writes.was_absent;
       whole = on_ok result (λ whole t. whole (told ∙ t) ∙ ap (λ f. insert f name text) files) writes.whole;
       taken = λ t. writes.taken (taken ∙ t) ∙ files;
@@ -89,15 +88,22 @@ module _ (words : List (List ℕ)) (old : DiskState) (names : Names) (ordered : 
       → ReadsProfile bytes field → IsTrue old.told → HasField words old.files names field
   has_field now bytes field input reads told =
       let (whole, there, is) = input.are_read told in
-      record { bytes = whole; profile = record { ordered = ordered; there = there };
-          reads = subst (λ b. ReadsProfile b field) (whole_if_read bytes whole field is reads) reads }
+      record {
+        bytes = whole;
+        profile = record { ordered = ordered; there = there };
+        reads = subst (λ b. ReadsProfile b field) (whole_if_read bytes whole field is reads) reads;
+      }
 
   is_refused : (now : DiskState) (bytes : List ℕ) → HasInput names old now bytes → IsRefused bytes → IsTrue old.told
       → ProfileIsRefused words old.files
   is_refused now bytes input refused told =
       let (whole, there, is) = input.are_read told in
-      record { names = names; bytes = whole; profile = record { ordered = ordered; there = there };
-          refused = refused_if_front bytes whole is refused }
+      record {
+        names = names;
+        bytes = whole;
+        profile = record { ordered = ordered; there = there };
+        refused = refused_if_front bytes whole is refused;
+      }
 
   same_disk : (now : DiskState) (bytes : List ℕ) → HasInput names old now bytes → SameDisk old now
   same_disk now bytes input = record { only_reads = input.only_reads; read_faults = input.read_faults }

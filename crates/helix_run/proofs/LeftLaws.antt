@@ -43,8 +43,8 @@ kept_by_insert files output text name bytes absent there =
     → cond b (Some text) (get files name) ≡ Some bytes) [
       | true ↦ λ e.
           let same : name ≡ output =
-              slice_cmp-IsAntisymmetric nat_cmp-IsAntisymmetric name output
-              (equal_if (slice_cmp nat_cmp name output) e) in
+          slice_cmp-IsAntisymmetric nat_cmp-IsAntisymmetric name output
+          (equal_if (slice_cmp nat_cmp name output) e) in
           let no_file : Some bytes ≡ None = sym there ∙ ap (get files) same ∙ absent in
           absurd (cc)
       | false ↦ λ e. there
@@ -116,7 +116,7 @@ module _ (words : List (List ℕ)) (old new : DiskState) (told : IsTrue old.told
       → Tells outcome before answer after → Left words old.files answer new.files
   Left-run before after outcome answer end tells =
       subst (λ s. Left words old.files s new.files) (sym tells.status)
-          (left_for before after outcome tells.result (known words old new outcome end) tells.added)
+      (left_for before after outcome tells.result (known words old new outcome end) tells.added)
 
   only_console_for : (outcome : Outcome) (shown : Bool) → Known words old outcome new
       → status_for outcome shown ≡ status.WriteFault
@@ -136,7 +136,7 @@ module _ (words : List (List ℕ)) (old new : DiskState) (told : IsTrue old.told
       → HoldsWhole words old.files new.files
   HoldsWhole-run before after outcome answer end tells is quiet absent =
       only_console_for outcome (is_ok tells.result) (known words old new outcome end) (sym tells.status ∙ is) quiet
-          absent
+      absent
 
 -- whatever was there is kept
 pub kept_if_left : (words : List (List ℕ)) (old new : FileMap) (answer : Status) → Left words old answer new
@@ -152,8 +152,8 @@ kept_if_left words old new status.WriteFault (inr prefix) name bytes there =
     ∙ prefix.has.absent) there
 kept_if_left words old new status.Done whole name bytes there =
     ap (λ f. get f name) whole.holds
-        ∙ kept_by_insert old whole.output whole.text name bytes (ap (get old) whole.has.output_is ∙ whole.has.absent)
-        there
+    ∙ kept_by_insert old whole.output whole.text name bytes (ap (get old) whole.has.output_is ∙ whole.has.absent)
+    there
 kept_if_left words old new status.Cut left name bytes there = absurd left
 kept_if_left words old new status.Empty left name bytes there = absurd left
 kept_if_left words old new status.TokenRefused left name bytes there = absurd left

@@ -12,7 +12,7 @@ name_length_all : (bytes : List ℕ) → IsTrue (list_all is_name_character (tak
 name_length_all [] = refl
 name_length_all (byte ∷ bytes) =
     elim (is_name_character byte) as (λ b. is_name_character byte ≡ b
-        → IsTrue (list_all is_name_character (take (if b then suc (name_length bytes) else 0) (byte ∷ bytes)))) [
+    → IsTrue (list_all is_name_character (take (if b then suc (name_length bytes) else 0) (byte ∷ bytes)))) [
       | true ↦ λ e. joined _ _ e (name_length_all bytes)
       | false ↦ λ e. refl
     ] refl
@@ -73,8 +73,8 @@ same_quoted name rest other more is also e =
     sym (name_length_at name rest is.characters) ∙ ap name_length tails ∙ name_length_at other more also.characters in
     let names : name ≡ other =
     sym (take-append_seam name (34 ∷ rest)) ∙ ap (λ n. take n (name ++ 34 ∷ rest)) ends ∙ ap (take (length other)) tails
-        ∙ take-append_seam other (34 ∷ more) in
+    ∙ take-append_seam other (34 ∷ more) in
     let rests : 34 ∷ rest ≡ 34 ∷ more =
     sym (drop-append_seam name (34 ∷ rest)) ∙ ap (λ n. drop n (name ++ 34 ∷ rest)) ends ∙ ap (drop (length other)) tails
-        ∙ drop-append_seam other (34 ∷ more) in
+    ∙ drop-append_seam other (34 ∷ more) in
     (names, cc)

@@ -10,7 +10,8 @@ use Rattle.helix_run.specs.Words.{Names}
 use Rattle.helix_run.specs.Inner.Reading.{OnlyReads}
 use Rattle.helix_run.specs.Inner.Writing.{WritesFile}
 use Rattle.helix_run.specs.Profile.{Field}
-use Rattle.helix_run.specs.Rows.{Flag, IsFlagAnswer, rows_of}
+use Rattle.helix_run.specs.Rows.{Flag, IsFlagAnswer}
+use Rattle.helix_run.specs.Inner.Rows.{rows_of}
 use Rattle.helix_run.specs.Output.{csv_text}
 use Rattle.helix_run.specs.Inner.Outcome.{HasInput, Wrote, EndsProfile, EndsOrder}
 

@@ -13,7 +13,7 @@ front_blanks : (bytes : List ℕ) → (blanks : List ℕ) × IsTrue (list_all is
 front_blanks [] = ([], refl, refl)
 front_blanks (byte ∷ bytes) =
     elim (is_space byte) as (λ b. is_space byte ≡ b → (blanks : List ℕ) × IsTrue (list_all is_space blanks)
-        × (byte ∷ bytes ≡ blanks ++ (if b then after_blanks bytes else byte ∷ bytes))) [
+    × (byte ∷ bytes ≡ blanks ++ (if b then after_blanks bytes else byte ∷ bytes))) [
       | true ↦ λ e. let more : (blanks : List ℕ) × IsTrue (list_all is_space blanks)
           × (bytes ≡ blanks ++ after_blanks bytes) = front_blanks bytes in
           (byte ∷ more.0, joined _ _ e more.1, ap (λ s. byte ∷ s) more.2)
@@ -33,19 +33,24 @@ Follows-from_after (expected ∷ pattern) [] rest e =
 Follows-from_after (expected ∷ pattern) (byte ∷ bytes) rest e =
     elim (expected == 32) as (λ b.
     (if b then after pattern (after_blanks (byte ∷ bytes)) else if byte == expected then after pattern
-        bytes else None) ≡ Some rest → MatchBool b
+    bytes else None) ≡ Some rest → MatchBool b
     ((blanks next : List ℕ) × IsTrue (list_all is_space blanks) × (byte ∷ bytes ≡ blanks ++ next)
-        × Follows pattern next rest)
+    × Follows pattern next rest)
     ((next : List ℕ) × (byte ∷ bytes ≡ expected ∷ next) × Follows pattern next rest)) [
       | true ↦ λ e.
           let prefix : (blanks : List ℕ) × IsTrue (list_all is_space blanks)
-              × (byte ∷ bytes ≡ blanks ++ after_blanks (byte ∷ bytes)) = front_blanks (byte ∷ bytes) in
-          (prefix.0, after_blanks (byte ∷ bytes), prefix.1, prefix.2, Follows-from_after pattern
-              (after_blanks (byte ∷ bytes)) rest e)
+          × (byte ∷ bytes ≡ blanks ++ after_blanks (byte ∷ bytes)) = front_blanks (byte ∷ bytes) in (
+            prefix.0,
+            after_blanks (byte ∷ bytes),
+            prefix.1,
+            prefix.2,
+            Follows-from_after pattern
+                (after_blanks (byte ∷ bytes)) rest e,
+          )
       | false ↦ λ e.
           elim (byte == expected) as (λ b. (byte == expected) ≡ b
-              → (if b then after pattern bytes else None) ≡ Some rest → (next : List ℕ)
-              × (byte ∷ bytes ≡ expected ∷ next) × Follows pattern next rest) [
+          → (if b then after pattern bytes else None) ≡ Some rest → (next : List ℕ)
+          × (byte ∷ bytes ≡ expected ∷ next) × Follows pattern next rest) [
             | true ↦ λ same e.
                 (bytes, ap (λ x. x ∷ bytes) (eqb-true byte expected same), Follows-from_after pattern bytes rest e)
             | false ↦ λ other e. absurd (cc)
@@ -59,13 +64,13 @@ after_blanks-append [] next all = refl
 after_blanks-append (byte ∷ blanks) next all =
     let parts : (is_space byte ≡ true) × (list_all is_space blanks ≡ true) = both _ _ all in
     ap (λ b. if b then after_blanks (blanks ++ next) else byte ∷ (blanks ++ next)) parts.0
-        ∙ after_blanks-append blanks next parts.1
+    ∙ after_blanks-append blanks next parts.1
 
 -- a byte that isn't blank ends the blanks
 settled_byte : (byte : ℕ) (bytes : List ℕ) → not (is_space byte) ≡ true → after_blanks (byte ∷ bytes) ≡ byte ∷ bytes
 settled_byte byte bytes e =
     elim (is_space byte) as (λ b. not b ≡ true → (if b then after_blanks bytes else byte ∷ bytes) ≡ byte ∷ bytes)
-        [ true ↦ λ e. absurd (cc) | false ↦ λ e. refl ] e
+    [ true ↦ λ e. absurd (cc) | false ↦ λ e. refl ] e
 
 space_is_blank : (byte : ℕ) → (byte == 32) ≡ true → is_space byte ≡ true
 space_is_blank byte e = ap (λ b. (b || byte == 9) || (byte == 10 || byte == 13)) e
@@ -96,7 +101,7 @@ after-byte : (expected : ℕ) (pattern bytes : List ℕ) → (expected == 32) �
     → after (expected ∷ pattern) (expected ∷ bytes) ≡ after pattern bytes
 after-byte expected pattern bytes e =
     ap (λ b. if b then after pattern (after_blanks (expected ∷ bytes)) else if expected == expected then after pattern
-        bytes else None) e
+    bytes else None) e
     ∙ ap (λ b. if b then after pattern bytes else None) (eq-eqb expected expected refl)
 
 -- what is after a settled pattern is found
@@ -105,10 +110,10 @@ pub after-from_Follows : (pattern bytes rest : List ℕ) → Follows pattern byt
 after-from_Follows [] bytes rest f settled = ap Some f
 after-from_Follows (expected ∷ pattern) bytes rest f settled =
     elim (expected == 32) as (λ b. (expected == 32) ≡ b
-        → (((not b || begins_settled pattern rest) && is_settled pattern rest) ≡ true) → MatchBool b
+    → (((not b || begins_settled pattern rest) && is_settled pattern rest) ≡ true) → MatchBool b
     ((blanks more : List ℕ) × IsTrue (list_all is_space blanks) × (bytes ≡ blanks ++ more) × Follows pattern more rest)
     ((more : List ℕ) × (bytes ≡ expected ∷ more) × Follows pattern more rest)
-        → after (expected ∷ pattern) bytes ≡ Some rest) [
+    → after (expected ∷ pattern) bytes ≡ Some rest) [
       | true ↦ λ space settled f.
           let parts : (begins_settled pattern rest ≡ true) × (is_settled pattern rest ≡ true) = both _ _ settled in
           after-space expected pattern bytes space
@@ -117,15 +122,16 @@ after-from_Follows (expected ∷ pattern) bytes rest f settled =
           ∙ after-from_Follows pattern f.1 rest f.4 parts.1
       | false ↦ λ other settled f.
           ap (after (expected ∷ pattern)) f.1 ∙ after-byte expected pattern f.0 other
-              ∙ after-from_Follows pattern f.0 rest f.2 settled
+          ∙ after-from_Follows pattern f.0 rest f.2 settled
     ] refl settled f
 
 -- whether a list is empty
 empty_test : (rest : List ℕ) (b : Bool) → b ≡ (length rest == 0) → b ≡ true ↔ (rest ≡ [])
 empty_test [] b is = (λ t. refl, λ e. is)
-empty_test (byte ∷ rest) b is =
-    (λ t. absurd (let long : length (byte ∷ rest) ≡ 0 = eqb-true (length (byte ∷ rest)) 0 (sym is ∙ t) in omega arith),
-        λ e. absurd (cc))
+empty_test (byte ∷ rest) b is = (
+  λ t. absurd (let long : length (byte ∷ rest) ≡ 0 = eqb-true (length (byte ∷ rest)) 0 (sym is ∙ t) in omega arith),
+  λ e. absurd (cc),
+)
 
 -- a test of the whole text: nothing is after the pattern
 pub follows-some : (pattern bytes rest : List ℕ) (b : Bool) → Some rest ≡ after pattern bytes
@@ -139,6 +145,8 @@ follows-some pattern bytes rest b found settled is =
 
 pub follows-none : (pattern bytes : List ℕ) → None ≡ after pattern bytes → is_settled pattern [] ≡ true → false ≡ true
     ↔ Follows pattern bytes []
-follows-none pattern bytes found settled =
-    (λ t. absurd (cc), λ f. absurd (let e : None ≡ Some [] = found
-        ∙ after-from_Follows pattern bytes [] f settled in cc))
+follows-none pattern bytes found settled = (
+  λ t. absurd (cc),
+  λ f. absurd (let e : None ≡ Some [] = found
+      ∙ after-from_Follows pattern bytes [] f settled in cc),
+)

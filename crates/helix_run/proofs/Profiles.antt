@@ -33,7 +33,7 @@ module _ {X : Type 0} (bytes : List ℕ) (result : Option X) where
   refused_closing prefix name rest found is spelled none = if_none result (IsRefused bytes) (λ field reads.
       let e : Some prefix ≡ Some (quoted_before field.name reads.rest) = found ∙ opened bytes field reads in
       let same : (name ≡ field.name)
-          × (rest ≡ reads.rest) = same_quoted name rest field.name reads.rest is reads.name (sym spelled ∙ cc) in
+      × (rest ≡ reads.rest) = same_quoted name rest field.name reads.rest is reads.name (sym spelled ∙ cc) in
       none reads.closes.written (rw same.1 reads.closes.closes))
 
 -- what was found

@@ -1,17 +1,32 @@
 -- Bytes that are appended piece by piece.
 use Rattle.std.proofs.Common.{◌≡◌, ℕ, ◌+◌, ◌-◌, ◌≤◌, List, [], length, take, drop, refl, sym, ◌∙◌, ap, subst, arith, take_all, length-drop}
 use Rattle.std.proofs.Math.Seq.{take-add}
-use Rattle.std.specs.Prelude.{Result, Ok, Err, IsErr, unwrap_or}
+use Rattle.std.specs.Prelude.{Result, Ok, Err, IsErr, IsTrue, unwrap_or}
 use Rattle.helix_outside.specs.Count.{Rose}
 use Rattle.helix_outside.specs.Files.{FileMap, appended}
 use Rattle.helix_outside.specs.FileLaws.{appended-appended}
 use Rattle.helix_outside.specs.Disk.{DiskState, WritesSome, written}
-use Rattle.helix_run.specs.Inner.Writing.{HasPut, PutsAll}
+use Rattle.helix_run.specs.Inner.Writing.{PutsAll}
+
+-- so far: the first bytes are appended
+pub record HasPut (old : DiskState) (bytes : List ℕ) (done : ℕ) (new : DiskState) : Type 0 where
+  pub told : new.told ≡ old.told
+  pub read_faults : new.read_faults ≡ old.read_faults
+  pub write_faults : new.write_faults ≡ old.write_faults
+  pub output : new.output ≡ old.output
+  pub within : done ≤ length bytes
+  pub files : IsTrue old.told → new.files ≡ written old (take done bytes)
 
 pub HasPut-start : (old : DiskState) (bytes : List ℕ) → HasPut old bytes 0 old
 HasPut-start old bytes =
-    record { told = refl; read_faults = refl; write_faults = refl; output = refl; within = omega arith;
-    files = λ t. refl }
+    record {
+      told = refl;
+      read_faults = refl;
+      write_faults = refl;
+      output = refl;
+      within = omega arith;
+      files = λ t. refl;
+    }
 
 -- what a piece more leaves
 files_further : (old now : DiskState) (bytes : List ℕ) (done n : ℕ) (files : FileMap)
@@ -31,7 +46,7 @@ rest_of bytes done = take_all (length bytes - done) (drop done bytes) (omega (ar
 
 module _ (old now next : DiskState) (bytes rest : List ℕ) (done : ℕ) (so_far : HasPut old bytes done now)
     (left : rest ≡ drop done bytes) where
-  pub HasPut-step : {E : Type 0} (n : ℕ) → Writes {E = E} now rest (Ok n) next → HasPut old bytes (done + n) next
+  pub HasPut-step : {E : Type 0} (n : ℕ) → WritesSome {E = E} now rest (Ok n) next → HasPut old bytes (done + n) next
   HasPut-step n call = record {
     told = call.told ∙ so_far.told;
     read_faults = call.read_faults ∙ so_far.read_faults;
@@ -44,7 +59,7 @@ module _ (old now next : DiskState) (bytes rest : List ℕ) (done : ℕ) (so_far
   }
 
   pub PutsAll-failed : {T E F : Type 0} (e : E) (result : Result T F) → IsErr result
-      → Writes {E = E} now rest (Err e) next → PutsAll old bytes result next
+      → WritesSome {E = E} now rest (Err e) next → PutsAll old bytes result next
   PutsAll-failed e (Ok x) is call = absurd (cc)
   PutsAll-failed e (Err f) is call = record {
     told = call.told ∙ so_far.told;
@@ -58,7 +73,7 @@ module _ (old now next : DiskState) (bytes rest : List ℕ) (done : ℕ) (so_far
     all = tt;
     part = λ told.
         let failed : (n : ℕ) × (n ≤ length rest)
-            × (next.files ≡ written now (take n rest)) = call.failed (so_far.told ∙ told) in (
+        × (next.files ≡ written now (take n rest)) = call.failed (so_far.told ∙ told) in (
           done + failed.0,
           omega (arith, length-drop done bytes, ap length left, failed.1),
           files_further old now bytes done failed.0 next.files so_far.output (so_far.files told)

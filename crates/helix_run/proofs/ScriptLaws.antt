@@ -43,7 +43,7 @@ both_ways : (words : List (List ℕ)) (files : FileMap) (names : Names) (field :
 both_ways words files names field has is =
     let same : names ≡ is.names = same_names words names is.names has.profile.ordered is.profile.ordered in
     let bytes : Some has.bytes ≡ Some is.bytes = sym has.profile.there ∙ ap (λ n. get files n.profile) same
-        ∙ is.profile.there in
+    ∙ is.profile.there in
     let equal : has.bytes ≡ is.bytes = cc in
     is.refused field (subst (λ b. ReadsProfile b field) equal has.reads)
 
@@ -64,24 +64,24 @@ module _ (words : List (List ℕ)) (old new : DiskState) (told : IsTrue old.told
   script_for ProfileRefused result (names, ordered, same, why) added quiet other =
       let is : ProfileIsRefused words old.files = why told in
       refused is.names is.bytes is.profile is.refused
-          (ends status.ProfileRefused new.files old.files _ same.only_reads.files)
+      (ends status.ProfileRefused new.files old.files _ same.only_reads.files)
   script_for WantOfMemory result known added quiet other = absurd (other refl)
   script_for WriteFault result (failed, write) added quiet other =
       elim (write_cause words old new failed write) [
         | inl rose ↦ absurd (quiet.write rose)
         | inr there ↦
             let same : there.names ≡ write.names =
-                same_names words there.names write.names there.ordered write.ordered in
+            same_names words there.names write.names there.ordered write.ordered in
             let some : is_some (get old.files write.names.output) ≡ true =
-                ap (λ n. is_some (get old.files n.output)) (sym same) ∙ there.there in
+            ap (λ n. is_some (get old.files n.output)) (sym same) ∙ there.there in
             taken write.names write.field (write.accepted told) some
             (ends status.WriteFault new.files old.files
-                _ (write.written.taken (ap (λ t. t && (true && is_some (get old.files write.names.output))) told
-                ∙ some)))
+            _ (write.written.taken (ap (λ t. t && (true && is_some (get old.files write.names.output))) told
+            ∙ some)))
       ]
   script_for (Done count) (Ok x) (write, counted) added quiet other =
       rw counted (written write.names write.field write.rows (write.accepted told) (write.written.was_absent told)
-          write.answer
+      write.answer
       (ends status.Done new.files _ (done_line (length write.rows)) (write.written.whole told)))
   script_for (Done count) (Err e) known added quiet other = absurd (quiet.console added.faults.failed)
 
@@ -93,7 +93,7 @@ module _ (words : List (List ℕ)) (old new : DiskState) (told : IsTrue old.told
     text = line_text (line_for outcome);
     script = subst (λ s. Script words old.files s new.files (line_text (line_for outcome))) (sym tells.status)
         (script_for outcome tells.result (known words old new outcome end) tells.added quiet
-            (λ e. other (tells.status ∙ e)));
+        (λ e. other (tells.status ∙ e)));
     shown = shown_if_quiet before after (line_for outcome) tells.result tells.added quiet.console;
   }
 
@@ -116,7 +116,7 @@ module _ (words : List (List ℕ)) (old new : DiskState) (told : IsTrue old.told
       → answer ≢ status.ReadFault → answer ≢ status.WantOfMemory → answer ≡ status.ProfileRefused
   refusal_comes-run outcome answer end tells is read memory =
       tells.status ∙ refusal_for outcome (is_ok tells.result) (known words old new outcome end) is
-          (λ e. read (tells.status ∙ e)) (λ e. memory (tells.status ∙ e))
+      (λ e. read (tells.status ∙ e)) (λ e. memory (tells.status ∙ e))
 
   -- an accepted profile whose output isn't there is written, unless something fails
   completes_for : (outcome : Outcome) (result : Result (Unit {0}) Failed) → Known words old outcome new
@@ -131,16 +131,16 @@ module _ (words : List (List ℕ)) (old new : DiskState) (told : IsTrue old.told
         | inl rose ↦ absurd (quiet.read rose)
         | inr lacks ↦
             let same : lacks.names ≡ is.names =
-                same_names words lacks.names is.names lacks.ordered is.has.profile.ordered in
+            same_names words lacks.names is.names lacks.ordered is.has.profile.ordered in
             absurd (let e : None ≡ Some is.has.bytes = sym lacks.missing ∙ ap (λ n. get old.files n.profile) same
-                ∙ is.has.profile.there in cc)
+            ∙ is.has.profile.there in cc)
       ]
   completes_for ProfileRefused result (names, ordered, same, why) added is absent quiet memory =
       absurd (both_ways words old.files is.names is.field is.has (why told))
   completes_for WantOfMemory result known added is absent quiet memory = absurd (memory refl)
   completes_for WriteFault result (failed, write) added is absent quiet memory =
       elim (write_cause words old new failed write)
-          [ inl rose ↦ absurd (quiet.write rose) | inr there ↦ absurd (absent there) ]
+      [ inl rose ↦ absurd (quiet.write rose) | inr there ↦ absurd (absent there) ]
   completes_for (Done count) (Ok x) known added is absent quiet memory = refl
   completes_for (Done count) (Err e) known added is absent quiet memory = absurd (quiet.console added.faults.failed)
 
@@ -150,4 +150,4 @@ module _ (words : List (List ℕ)) (old new : DiskState) (told : IsTrue old.told
       → IsQuiet (environment old before) (environment new after) → answer ≢ status.WantOfMemory → answer ≡ status.Done
   completes-run outcome answer end tells is absent quiet memory =
       tells.status ∙ completes_for outcome tells.result (known words old new outcome end) tells.added is absent quiet
-          (λ e. memory (tells.status ∙ e))
+      (λ e. memory (tells.status ∙ e))

@@ -54,7 +54,7 @@ module _ {T E : Type 0} (old begun : DiskState) (name text : List ℕ) (x : T)
     taken = λ t. absurd (cc (free, t));
     part = λ told.
         let part : (n : ℕ) × (n ≤ length text)
-            × (put.files ≡ written begun (take n text)) = puts.part (call.told ∙ told) in
+        × (put.files ≡ written begun (take n text)) = puts.part (call.told ∙ told) in
         inr (part.0, part.1, files_after put.files (take part.0 text) told part.2);
   }
 
@@ -63,9 +63,12 @@ module _ {T E : Type 0} (old begun : DiskState) (name text : List ℕ) (x : T)
   finished put done y (Ok z) puts end = record {
     told = end.told ∙ puts.told ∙ call.told;
     read_faults = end.read_faults ∙ puts.read_faults ∙ call.read_faults;
-    write_faults = record { grows =
-        omega (arith, end.write_faults.grows, puts.write_faults.grows, call.write_faults.grows);
-        ok = end.write_faults.ok ∙ puts.write_faults.ok ∙ call.write_faults.ok; failed = tt };
+    write_faults = record {
+      grows =
+          omega (arith, end.write_faults.grows, puts.write_faults.grows, call.write_faults.grows);
+      ok = end.write_faults.ok ∙ puts.write_faults.ok ∙ call.write_faults.ok;
+      failed = tt;
+    };
     was_absent = was_absent;
     whole = λ told. end.files ∙ files_after put.files text told (puts.all (call.told ∙ told));
     taken = λ t. absurd (cc (free, t));

@@ -1,9 +1,17 @@
 -- A file that was read to its end, or to the limit.
 use Rattle.std.proofs.Common.{◌≡◌, ℕ, ◌≤◌, List, [], ◌++◌, length, take_all, sym, ◌∙◌, ap, append-nil}
 use Rattle.std.proofs.lemmas.List.{take_at}
-use Rattle.std.specs.Prelude.{Some, IsTrue, unwrap_or}
+use Rattle.std.specs.FinMap.{get}
+use Rattle.std.specs.Prelude.{Some, IsSome, IsTrue, unwrap_or}
 use Rattle.helix_outside.specs.Disk.{DiskState}
-use Rattle.helix_run.specs.Inner.Reading.{HasRead, AreRead}
+use Rattle.helix_run.specs.Inner.Reading.{OnlyReads, AreRead}
+
+-- so far: the file is open, and the bytes come before what is left of it
+pub record HasRead (old : DiskState) (name : List ℕ) (new : DiskState) (bytes : List ℕ) : Type 0 where
+  pub only_reads : OnlyReads old new
+  pub read_faults : new.read_faults ≡ old.read_faults
+  pub still_open : IsSome new.input
+  pub whole : IsTrue old.told → get old.files name ≡ Some (bytes ++ unwrap_or new.input [])
 
 module _ (old now : DiskState) (name bytes : List ℕ) (read : HasRead old name now bytes) where
   -- nothing is left

@@ -1,3 +1,5 @@
+pub mod Words
+pub mod Rows
 pub mod Reading
 pub mod Writing
 pub mod Pattern

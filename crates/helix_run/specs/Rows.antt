@@ -1,14 +1,10 @@
 -- The rows of one boolean field: which are good, and in which order they are.
-use Rattle.std.specs.Prelude.{◌≡◌, Bool, true, false, ◌⊎◌, ◌↔◌, List, [], ◌∷◌, map, Option, Some, None, IsTrue, Contains, ⊤}
+use Rattle.std.specs.Prelude.{◌≡◌, Bool, true, false, ◌⊎◌, ◌↔◌, List, [], ◌∷◌, Option, Some, None, IsTrue, Contains, ⊤}
 use Rattle.helix_run.specs.Profile.{Field}
 
 -- a truth value, or null
 abbrev pub Flag : Type 0
 Flag = Option Bool
-
--- one row a cell
-abbrev pub rows_of : List Flag → List (List Flag)
-rows_of cells = map (λ cell. cell ∷ []) cells
 
 -- every truth value is in the universe of a boolean field, and null where the field is nullable
 abbrev pub IsFlagOf : Field → Flag → Type 0

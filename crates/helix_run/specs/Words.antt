@@ -1,6 +1,5 @@
 -- The words of the command line.
 use Rattle.std.specs.Prelude.{ℕ, ◌&&◌, ◌||◌, if◌then◌else◌, List, [], ◌∷◌, length, ◌==◌, Option, Some, None, bytes_eq, codes}
-use Rattle.helix_run.specs.declared.words.Order.{Order}
 
 -- the names that the words give: of the profile file and of the output
 pub record Names : Type 0 where
@@ -20,7 +19,3 @@ order_of (first ∷ a ∷ second ∷ b ∷ []) =
     else if bytes_eq first (codes "--output-path") && bytes_eq second (codes "--profile-file") then order_from b a
     else None
 order_of _ = None
-
--- the names that an order holds
-abbrev pub names : Order → Names
-names order = record { profile = order.profile.now; output = order.output.now }

@@ -1,7 +1,7 @@
 //! Rows as CSV (RFC 4180).
 
 ghost use Rattle.std.specs.Prelude.{◌≡◌, ◌++◌, IfOk, OnOk};
-ghost use Rattle.helix_run.specs.Rows.{rows_of};
+ghost use Rattle.helix_run.specs.Inner.Rows.{rows_of};
 ghost use Rattle.helix_run.specs.Output.{csv_text, flag_text, quoted};
 
 use std::alloc::{AllocError, Global};

@@ -1,7 +1,8 @@
 //! What an order does on the disk.
 
 ghost use Rattle.std.specs.Prelude.{◌≡◌, List, ℕ, map, string_bytes, MatchOption, length};
-ghost use Rattle.helix_run.specs.Words.{order_of, names};
+ghost use Rattle.helix_run.specs.Words.{order_of};
+ghost use Rattle.helix_run.specs.Inner.Words.{names};
 ghost use Rattle.helix_run.specs.Inner.Outcome.{EndsOrder, HasInput, EndsProfile, EndsField};
 ghost use Rattle.helix_run.specs.Inner.Name.{field_of};
 

@@ -2,7 +2,8 @@
 
 ghost use Rattle.std.specs.Prelude.{◌≡◌};
 ghost use Rattle.helix_run.specs.Profile.{Field};
-ghost use Rattle.helix_run.specs.Rows.{IsFlagAnswer, rows_of};
+ghost use Rattle.helix_run.specs.Rows.{IsFlagAnswer};
+ghost use Rattle.helix_run.specs.Inner.Rows.{rows_of};
 
 /// The cells of the good rows, in ascending order. `None` is null.
 pub fn answer(nullable: bool) -> &'static [Option<bool>]

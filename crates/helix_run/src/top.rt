@@ -3,7 +3,8 @@
 ghost use Rattle.std.specs.Prelude.{◌≡◌, ◌≢◌, List, ℕ, map, string_bytes, IsTrue, IsNone, None, Some};
 ghost use Rattle.std.specs.FinMap.{get};
 ghost use Rattle.helix_outside.specs.Count.{Rose};
-ghost use Rattle.helix_run.specs.Words.{order_of, names};
+ghost use Rattle.helix_run.specs.Words.{order_of};
+ghost use Rattle.helix_run.specs.Inner.Words.{names};
 ghost use Rattle.helix_run.specs.Environment.{environment, IsQuiet, FollowsScript};
 ghost use Rattle.helix_run.specs.Causes.{Cause, ProfileIsRefused, ProfileIsRead, OutputIsThere};
 ghost use Rattle.helix_run.specs.Left.{Left, HoldsWhole, ShowsLine};
@@ -30,7 +31,7 @@ pub fn run<D: Disk, C: Console>(
         let before = environment (D.state disk.old) (C.screen console.old) in
         let after = environment (D.state disk.new) (C.screen console.new) in
         IsTrue before.disk.told → IsQuiet before after → result ≢ Status.WantOfMemory
-            → FollowsScript words before result after }
+        → FollowsScript words before result after }
 
     // Each status has its cause, and comes where that cause holds.
     ensures cause { Cause (map string_bytes words.now)

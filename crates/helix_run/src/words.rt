@@ -1,7 +1,8 @@
 //! The words of the command line.
 
 ghost use Rattle.std.specs.Prelude.{◌≡◌, [], ◌∷◌, map, string_bytes, option_map};
-ghost use Rattle.helix_run.specs.Words.{order_of, order_from, names};
+ghost use Rattle.helix_run.specs.Words.{order_of, order_from};
+ghost use Rattle.helix_run.specs.Inner.Words.{names};
 
 /// What the words ask for: the names of the profile file and of the output.
 #[derive(Clone, Copy, Debug)]

@@ -30,10 +30,3 @@ FailsToRead old name new =
 abbrev pub StopsReading : DiskState → List ℕ → ReadError → DiskState → Type 0
 StopsReading old name Fault new = FailsToRead old name new
 StopsReading old name Memory new = new.read_faults ≡ old.read_faults
-
--- so far: the file is open, and the bytes come before what is left of it
-pub record HasRead (old : DiskState) (name : List ℕ) (new : DiskState) (bytes : List ℕ) : Type 0 where
-  pub only_reads : OnlyReads old new
-  pub read_faults : new.read_faults ≡ old.read_faults
-  pub still_open : IsSome new.input
-  pub whole : IsTrue old.told → get old.files name ≡ Some (bytes ++ unwrap_or new.input [])

@@ -6,8 +6,7 @@ use Rattle.helix_outside.specs.Files.{FileMap}
 use Rattle.helix_outside.specs.Disk.{DiskState, is_taken, written}
 
 -- writing to the open output: all bytes are appended, or a prefix of them where the count of write faults rose
-pub record PutsAll {T E : Type 0} (old : DiskState) (bytes : List ℕ) (result : Result T E) (new : DiskState) : Type
-    0 where
+pub record PutsAll {T E : Type 0} (old : DiskState) (bytes : List ℕ) (result : Result T E) (new : DiskState) : Type 0 where
   pub told : new.told ≡ old.told
   pub read_faults : new.read_faults ≡ old.read_faults
   pub output : new.output ≡ old.output
@@ -20,8 +19,7 @@ abbrev pub HoldsPart : FileMap → List ℕ → List ℕ → FileMap → Type 0
 HoldsPart old name text new = (new ≡ old) ⊎ ((n : ℕ) × (n ≤ length text) × (new ≡ insert old name (take n text)))
 
 -- a new file holds the text; where that fails it was there already, or the count of write faults rose
-pub record WritesFile {T E : Type 0} (old : DiskState) (name text : List ℕ) (result : Result T E) (new : DiskState) :
-    Type 0 where
+pub record WritesFile {T E : Type 0} (old : DiskState) (name text : List ℕ) (result : Result T E) (new : DiskState) : Type 0 where
   pub told : new.told ≡ old.told
   pub read_faults : new.read_faults ≡ old.read_faults
   pub write_faults : Counts result (is_taken old name false) old.write_faults new.write_faults
@@ -29,12 +27,3 @@ pub record WritesFile {T E : Type 0} (old : DiskState) (name text : List ℕ) (r
   pub whole : OnOk result (IsTrue old.told → new.files ≡ insert old.files name text)
   pub taken : IsTrue (is_taken old name false) → new.files ≡ old.files
   pub part : OnErr result (IsTrue old.told → HoldsPart old.files name text new.files)
-
--- so far: the first bytes are appended
-pub record HasPut (old : DiskState) (bytes : List ℕ) (done : ℕ) (new : DiskState) : Type 0 where
-  pub told : new.told ≡ old.told
-  pub read_faults : new.read_faults ≡ old.read_faults
-  pub write_faults : new.write_faults ≡ old.write_faults
-  pub output : new.output ≡ old.output
-  pub within : done ≤ length bytes
-  pub files : IsTrue old.told → new.files ≡ written old (take done bytes)

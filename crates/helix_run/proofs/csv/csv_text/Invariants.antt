@@ -1,6 +1,6 @@
 use Rattle.std.proofs.Common.{◌≡◌, ◌++◌, take}
 use Rattle.std.specs.Prelude.{flat_map}
-use Rattle.helix_run.specs.Rows.{rows_of}
+use Rattle.helix_run.specs.Inner.Rows.{rows_of}
 use Rattle.helix_run.specs.Output.{row_text}
 use Rattle.helix_run.proofs.csv.csv_text.Given as goal
 

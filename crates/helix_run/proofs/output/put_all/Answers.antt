@@ -5,7 +5,7 @@ use Rattle.helix_run.proofs.output.put_all.Goals as goal
 pub returns-in_err-done : goal.returns-in_err-done
 returns-in_err-done g c =
     PutsAll-failed _ _ _ c.args.bytes.now _ c.loop-done.done c.loop-done.invariant.0
-        (rest_of c.args.bytes.now c.loop-done.done)
+    (rest_of c.args.bytes.now c.loop-done.done)
     c.in_err-done.field-0.0 c.from_residual.result c.from_residual.ensures.0 c.in_err-done.ensures
 
 pub loop-done-preserved : goal.loop-done-preserved

@@ -1,5 +1,5 @@
 use Rattle.std.proofs.Common.{length, ◌-◌, IsSome}
-use Rattle.helix_run.specs.Inner.Writing.{HasPut}
+use Rattle.helix_run.proofs.Putting.{HasPut}
 use Rattle.helix_run.proofs.output.put_all.Given as goal
 
 abbrev pub invariant-loop-done : goal.invariant-loop-done

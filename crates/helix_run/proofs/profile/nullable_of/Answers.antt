@@ -25,4 +25,4 @@ refuted F h f = let e : false ≡ true = h f in absurd (cc)
 pub returns-else-follows-3-clause-none : goal.returns-else-follows-3-clause-none
 returns-else-follows-3-clause-none c =
     each_written _ (refuted _ c.if-follows.ensures.1) (refuted _ c.if-follows-2.ensures.1)
-        (refuted _ c.if-follows-3.ensures.1)
+    (refuted _ c.if-follows-3.ensures.1)

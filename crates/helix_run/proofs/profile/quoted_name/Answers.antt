@@ -6,8 +6,8 @@ use Rattle.helix_run.proofs.profile.quoted_name.Goals.{then-first-ne34-via-then-
 pub returns-then-first-ne34-clause-none : goal.returns-then-first-ne34-clause-none
 returns-then-first-ne34-clause-none c = λ name rest is e.
     let facts : QuotedFacts c.in_ok-first.first.now c.in_ok-first.inner.now =
-        quoted_facts c.in_ok-first.first.now c.in_ok-first.inner.now name rest (sym c.in_ok-first.ensures.cases.0 ∙ e)
-        is in
+    quoted_facts c.in_ok-first.first.now c.in_ok-first.inner.now name rest (sym c.in_ok-first.ensures.cases.0 ∙ e)
+    is in
     elim c.then-first-ne34.branch [
       | then-first-ne34-via-then-first-ne34 w ↦ omega arith
       | then-first-ne34-via-else-first-ne34+then-end-eq0 w ↦ omega arith
@@ -15,7 +15,7 @@ returns-then-first-ne34-clause-none c = λ name rest is e.
       | then-first-ne34-via-else-first-ne34+else-end-eq0+else-end-gt200+then-end-inner w ↦ omega arith
       | then-first-ne34-via-else-first-ne34+else-end-eq0+else-end-gt200+else-end-inner+then-inner-end-ne34 w ↦
           w.if-inner-end-ne34.true (ap (λ n. get_or c.in_ok-first.inner.now n 0) c.name_length-end.ensures.value
-              ∙ facts.end_quote)
+          ∙ facts.end_quote)
     ]
 
 pub returns-clause-name : goal.returns-clause-name

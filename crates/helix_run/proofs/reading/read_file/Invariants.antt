@@ -1,5 +1,5 @@
 use Rattle.std.proofs.Common.{◌≡◌, ◌-◌, ◌≤◌, length, vec_len}
-use Rattle.helix_run.specs.Inner.Reading.{HasRead}
+use Rattle.helix_run.proofs.WholeInput.{HasRead}
 use Rattle.helix_run.proofs.reading.read_file.Given as goal
 
 abbrev pub invariant-loop-buffer : goal.invariant-loop-buffer
