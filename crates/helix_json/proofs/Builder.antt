@@ -11,8 +11,8 @@ use Rattle.helix_json.specs.declared.build.Frame.TheVariants as kept
 use Rattle.helix_json.specs.declared.build.Next.{Next}
 use Rattle.helix_json.specs.declared.build.Next.TheVariants as next
 use Rattle.helix_json.specs.Tokens.{tokens}
-use Rattle.helix_json.specs.Machine.{Frame, in_list, in_object, Reading, value, first_item, colon, after, step, value_step, run, on_some}
-use Rattle.helix_json.specs.Building.{frame_of, frames_of, reading_of}
+use Rattle.helix_json.specs.Inner.Machine.{Frame, in_list, in_object, Reading, value, first_item, colon, after, step, value_step, run, on_some}
+use Rattle.helix_json.specs.Inner.Building.{frame_of, frames_of, reading_of}
 use Rattle.helix_json.proofs.Machine.{refused, run-append, run_tokens}
 use Rattle.helix_json.proofs.Firsts.{cut_at}
 

@@ -4,8 +4,8 @@ use Rattle.std.proofs.lemmas.List.{take_more, take_rest}
 use Rattle.std.specs.BTreeMap.{is_at}
 use Rattle.helix_json.specs.declared.token.Token.{Token}
 use Rattle.helix_json.specs.Broken.{RepeatsKey, stays}
-use Rattle.helix_json.specs.Rules.{AreTokens, IsFirstAt}
-use Rattle.helix_json.specs.Scopes.{BeginsWithKey, Closes, Passes}
+use Rattle.helix_json.specs.Inner.Rules.{AreTokens, IsFirstAt}
+use Rattle.helix_json.specs.Inner.Scopes.{BeginsWithKey, Closes, Passes}
 use Rattle.helix_json.proofs.Firsts.{NoneBefore, cut_at, found_at, none_more}
 use Rattle.helix_json.proofs.Stays.{stays-tokens}
 use Rattle.helix_json.proofs.Starts.{Nested, nested_start, nested_passes, inside}

@@ -11,14 +11,14 @@ use Rattle.helix_json.specs.declared.string.StringMove.{StringMove}
 use Rattle.helix_json.specs.declared.string.StringMove.TheVariants as move
 use Rattle.helix_json.specs.declared.digits.NumberState.{NumberState}
 use Rattle.helix_json.specs.declared.digits.NumberState.TheVariants as number
-use Rattle.helix_json.specs.NumberSteps.{accepts}
-use Rattle.helix_json.specs.Lexer.{Lex, between, in_string, in_number, in_word, lex, on_emission, prepend, word_token, word_move}
-use Rattle.helix_json.specs.Machine.{Reading, value, first_item, first_key, key, colon, after, Frame, in_list, in_object, run, step, on_some}
-use Rattle.helix_json.specs.Scan.{may_go, FineLex}
+use Rattle.helix_json.specs.Inner.NumberSteps.{accepts}
+use Rattle.helix_json.specs.Inner.Lexer.{Lex, between, in_string, in_number, in_word, lex, on_emission, prepend, word_token, word_move}
+use Rattle.helix_json.specs.Inner.Machine.{Reading, value, first_item, first_key, key, colon, after, Frame, in_list, in_object, run, step, on_some}
+use Rattle.helix_json.specs.Inner.Scan.{may_go, FineLex}
 use Rattle.helix_json.proofs.Machine.{closers, finish}
 use Rattle.helix_json.proofs.Strings.{prepend_nil, lex_go, lex_give}
 use Rattle.helix_json.proofs.Lexing.{EndsNumber, number_read, number_leads}
-use Rattle.helix_json.specs.StringSteps.{Fine, string_step}
+use Rattle.helix_json.specs.Inner.StringSteps.{Fine, string_step}
 
 -- each string can end
 abbrev pub EndsString : StringState → List ℕ → Type 0

@@ -1,5 +1,6 @@
 -- Where reading begins, and what it has found at the end of the text.
 use Rattle.std.proofs.Common.{◌≡◌, ℕ, ◌≤◌, true, Some, List, [], ◌∷◌, zero, suc, length, take, drop, slice_range, ◌-◌, refl, sym, ◌∙◌, ap, subst, arith}
+use Rattle.std.proofs.lemmas.Bool.{and_parts}
 use Rattle.std.specs.Str.{all_scalars}
 use Rattle.helix_json.specs.declared.value.Json.{Json}
 use Rattle.helix_json.specs.declared.token.Token.{Token}
@@ -8,12 +9,11 @@ use Rattle.helix_json.specs.declared.need.Container.TheVariants as container
 use Rattle.helix_json.specs.declared.nest.Nest.{Nest}
 use Rattle.helix_json.specs.Tokens.{tokens}
 use Rattle.helix_json.specs.Broken.{IsViable, LeavesGrammar}
-use Rattle.helix_json.specs.Lexer.{between, lex}
-use Rattle.helix_json.specs.Machine.{Reading, value, first_item, first_key, key, colon, after, in_list, in_object, run}
-use Rattle.helix_json.specs.Need.{need_of, opened, containers}
-use Rattle.helix_json.specs.Progress.{IsWhole, Stands, AllBegin, Holds}
-use Rattle.helix_json.specs.Scanned.{AreTokensOf}
-use Rattle.helix_json.proofs.Decides.{both_of}
+use Rattle.helix_json.specs.Inner.Lexer.{between, lex}
+use Rattle.helix_json.specs.Inner.Machine.{Reading, value, first_item, first_key, key, colon, after, in_list, in_object, run}
+use Rattle.helix_json.specs.Inner.Need.{need_of, opened, containers}
+use Rattle.helix_json.specs.Inner.Progress.{IsWhole, Stands, AllBegin, Holds}
+use Rattle.helix_json.specs.Inner.Scanned.{AreTokensOf}
 use Rattle.helix_json.proofs.StringBack.{two_true}
 use Rattle.helix_json.proofs.Machine.{run_tokens, tokens_from}
 use Rattle.helix_json.proofs.Lexing.{lexes_value}
@@ -77,12 +77,12 @@ module _ (text : List ℕ) (at : ℕ) (ts : List Token) (ps : List ℕ) (nest : 
 scalars_drop : (n : ℕ) (text : List ℕ) → all_scalars text ≡ true → all_scalars (drop n text) ≡ true
 scalars_drop zero text e = e
 scalars_drop (suc n) [] e = e
-scalars_drop (suc n) (c ∷ cs) e = scalars_drop n cs (both_of _ (all_scalars cs) e).1
+scalars_drop (suc n) (c ∷ cs) e = scalars_drop n cs (and_parts _ (all_scalars cs) e).1
 
 scalars_take : (n : ℕ) (text : List ℕ) → all_scalars text ≡ true → all_scalars (take n text) ≡ true
 scalars_take zero text e = refl
 scalars_take (suc n) [] e = refl
-scalars_take (suc n) (c ∷ cs) e = let parts : (_ ≡ true) × (all_scalars cs ≡ true) = both_of _ (all_scalars cs) e in two_true _ _ parts.0 (scalars_take n cs parts.1)
+scalars_take (suc n) (c ∷ cs) e = let parts : (_ ≡ true) × (all_scalars cs ≡ true) = and_parts _ (all_scalars cs) e in two_true _ _ parts.0 (scalars_take n cs parts.1)
 
 pub scalars_slice : (text : List ℕ) (from to : ℕ) → all_scalars text ≡ true → all_scalars (slice_range text from to) ≡ true
 scalars_slice text from to e = scalars_take (to - from) (drop from text) (scalars_drop from text e)

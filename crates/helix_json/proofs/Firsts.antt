@@ -3,7 +3,7 @@ use Rattle.std.proofs.Common.{◌≡◌, ℕ, ◌+◌, ◌<◌, ◌≤◌, ◌�
 use Rattle.std.proofs.lemmas.Bool.{cases_lt}
 use Rattle.std.proofs.lemmas.List.{drop_more}
 use Rattle.helix_json.specs.declared.token.Token.{Token}
-use Rattle.helix_json.specs.Rules.{IsFirstAt}
+use Rattle.helix_json.specs.Inner.Rules.{IsFirstAt}
 
 -- it holds of none of the first so many tokens
 pub record NoneBefore (P : List Token → Token → List Token → Type 0) (all : List Token) (i : ℕ) : Type 0 where

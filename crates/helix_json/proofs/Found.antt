@@ -5,9 +5,9 @@ use Rattle.helix_json.specs.declared.fault.JsonFault.TheVariants as fault
 use Rattle.helix_json.specs.declared.value.Json.{Json}
 use Rattle.helix_json.specs.declared.token.Token.{Token}
 use Rattle.helix_json.specs.Broken.{BeginsAt, BeginsTooDeep, First, FirstIn, RepeatsKey, byte_place}
-use Rattle.helix_json.specs.Reading.{Breaks}
-use Rattle.helix_json.specs.Rules.{IsFirstAt, HoldsNowhere}
-use Rattle.helix_json.specs.Scanned.{AreTokensOf}
+use Rattle.helix_json.specs.Inner.Reading.{Breaks}
+use Rattle.helix_json.specs.Inner.Rules.{IsFirstAt, HoldsNowhere}
+use Rattle.helix_json.specs.Inner.Scanned.{AreTokensOf}
 
 module _ (text : List ℕ) (v : Json) (ts : List Token) (places : List ℕ) (scanned : AreTokensOf text v ts places) where
   has_place : (i : ℕ) → IsFirstAt RepeatsKey ts i → i < length places

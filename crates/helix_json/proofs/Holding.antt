@@ -1,5 +1,6 @@
 -- What a token or a blank does to what has been read.
 use Rattle.std.proofs.Common.{◌≡◌, ◌≢◌, ℕ, ◌+◌, ◌<◌, true, false, is_some, Some, List, [], ◌∷◌, ◌++◌, length, take, get_or, refl, sym, ◌∙◌, ap, arith}
+use Rattle.std.proofs.lemmas.Bool.{false_from_ne_true}
 use Rattle.helix_json.specs.declared.token.Token.{Token}
 use Rattle.helix_json.specs.declared.token.Token.TheVariants as token
 use Rattle.helix_json.specs.declared.class.Mark.{Mark}
@@ -11,13 +12,12 @@ use Rattle.helix_json.specs.declared.lexeme.StringRead.TheVariants as read
 use Rattle.helix_json.specs.declared.nest.Nest.{Nest}
 use Rattle.helix_json.specs.Text.{is_blank}
 use Rattle.helix_json.specs.Broken.{LeavesGrammar}
-use Rattle.helix_json.specs.Lexer.{Lex, between, in_string, class, by_class, mark_token}
-use Rattle.helix_json.specs.Machine.{Reading, step, run, on_some}
-use Rattle.helix_json.specs.Need.{kind_of_token}
-use Rattle.helix_json.specs.Scan.{may_go, FineLex, HasRead}
-use Rattle.helix_json.specs.Progress.{Allows, Stands, Holds}
-use Rattle.helix_json.specs.Lexeme.{ReadsString}
-use Rattle.helix_json.proofs.Decides.{bool_false}
+use Rattle.helix_json.specs.Inner.Lexer.{Lex, between, in_string, class, by_class, mark_token}
+use Rattle.helix_json.specs.Inner.Machine.{Reading, step, run, on_some}
+use Rattle.helix_json.specs.Inner.Need.{kind_of_token}
+use Rattle.helix_json.specs.Inner.Scan.{may_go, FineLex, HasRead}
+use Rattle.helix_json.specs.Inner.Progress.{Allows, Stands, Holds}
+use Rattle.helix_json.specs.Inner.Lexeme.{ReadsString}
 use Rattle.helix_json.proofs.Lexing.{blank_class}
 use Rattle.helix_json.proofs.Endings.{run_one}
 use Rattle.helix_json.proofs.Viable.{no_tokens, no_token}
@@ -25,7 +25,7 @@ use Rattle.helix_json.proofs.Standing.{stands_from, goes_on, begins, refused}
 use Rattle.helix_json.proofs.Placing.{begins_there, all_begin-push}
 
 pub no_blank : (c : ℕ) (k : Class) → class c ≡ k → k ≢ class_is.Blank → is_blank c ≡ false
-no_blank c k is other = bool_false (is_blank c) (λ e. other (sym is ∙ blank_class c e))
+no_blank c k is other = false_from_ne_true (is_blank c) (λ e. other (sym is ∙ blank_class c e))
 
 module _ (text : List ℕ) (at : ℕ) (tokens : List Token) (places : List ℕ) (old : Nest) (within : at < length text) (holds : Holds text at tokens places old) where
   pub holds_blank : class (get_or text at 0) ≡ class_is.Blank → Holds text (at + 1) tokens places old

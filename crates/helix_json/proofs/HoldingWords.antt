@@ -1,6 +1,6 @@
 -- What a literal name or a number does to what has been read.
 use Rattle.std.proofs.Common.{◌≡◌, ◌≢◌, ℕ, ◌+◌, ◌-◌, ◌≤◌, ◌<◌, inl, inr, true, false, ◌==◌, Some, None, List, [], ◌∷◌, ◌++◌, length, take, drop, get_or, slice_range, codes, refl, sym, ◌∙◌, ap, subst, arith, append_assoc}
-use Rattle.std.proofs.lemmas.Bool.{cond-false}
+use Rattle.std.proofs.lemmas.Bool.{cond-false, ne_eqb}
 use Rattle.std.proofs.lemmas.List.{take-append-drop, drop_more, take_all}
 use Rattle.helix_json.specs.declared.token.Token.{Token}
 use Rattle.helix_json.specs.declared.token.Token.TheVariants as token
@@ -12,14 +12,13 @@ use Rattle.helix_json.specs.declared.digits.NumberState.{NumberState}
 use Rattle.helix_json.specs.declared.digits.NumberState.TheVariants as number
 use Rattle.helix_json.specs.declared.nest.Nest.{Nest}
 use Rattle.helix_json.specs.Broken.{LeavesGrammar}
-use Rattle.helix_json.specs.NumberSteps.{kind_of, number_step, number_ends}
-use Rattle.helix_json.specs.Lexer.{between, in_word, in_number, lex, on_emission, prepend, class, by_class, begin_number, word_token, word_rest, word_move}
-use Rattle.helix_json.specs.Machine.{Reading, step}
-use Rattle.helix_json.specs.Need.{kind_of_token}
-use Rattle.helix_json.specs.Scan.{HasRead}
-use Rattle.helix_json.specs.Progress.{Allows, Holds}
-use Rattle.helix_json.specs.Lexeme.{ReadsNumber, ReadsLetters}
-use Rattle.helix_json.proofs.Decides.{differ}
+use Rattle.helix_json.specs.Inner.NumberSteps.{kind_of, number_step, number_ends}
+use Rattle.helix_json.specs.Inner.Lexer.{between, in_word, in_number, lex, on_emission, prepend, class, by_class, begin_number, word_token, word_rest, word_move}
+use Rattle.helix_json.specs.Inner.Machine.{Reading, step}
+use Rattle.helix_json.specs.Inner.Need.{kind_of_token}
+use Rattle.helix_json.specs.Inner.Scan.{HasRead}
+use Rattle.helix_json.specs.Inner.Progress.{Allows, Holds}
+use Rattle.helix_json.specs.Inner.Lexeme.{ReadsNumber, ReadsLetters}
 use Rattle.helix_json.proofs.Decimal.{le_or_lt}
 use Rattle.helix_json.proofs.Machine.{run-append}
 use Rattle.helix_json.proofs.Endings.{run_one, word_step, word_read}
@@ -70,8 +69,8 @@ whole_word word.False front ds r q has go = word_ends word.False front ds r q 97
 
 -- another letter
 wrong : (w : Word) (c d : ℕ) (more : List ℕ) → c ≢ d → word_move w c (d ∷ more) ≡ None
-wrong w c d [] other = cond-false (c == d) _ _ (differ c d other)
-wrong w c d (e ∷ more) other = cond-false (c == d) _ _ (differ c d other)
+wrong w c d [] other = cond-false (c == d) _ _ (ne_eqb c d other)
+wrong w c d (e ∷ more) other = cond-false (c == d) _ _ (ne_eqb c d other)
 
 word_stops : (text : List ℕ) (at : ℕ) (ds : List Token) (r : Reading) (w : Word) (d : ℕ) (more : List ℕ) → HasRead (take at text) ds r (in_word w (d ∷ more)) → at ≤ length text
     → (at < length text → get_or text at 0 ≢ d) → LeavesGrammar text at

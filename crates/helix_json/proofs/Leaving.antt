@@ -5,9 +5,9 @@ use Rattle.helix_json.specs.declared.value.Json.{Json}
 use Rattle.helix_json.specs.declared.token.Token.{Token}
 use Rattle.helix_json.specs.Text.{SpellsText}
 use Rattle.helix_json.specs.Broken.{IsViable, LeavesGrammar}
-use Rattle.helix_json.specs.Lexer.{Lex, between, lex, lex_end}
-use Rattle.helix_json.specs.Machine.{Reading}
-use Rattle.helix_json.specs.Scan.{HasRead}
+use Rattle.helix_json.specs.Inner.Lexer.{Lex, between, lex, lex_end}
+use Rattle.helix_json.specs.Inner.Machine.{Reading}
+use Rattle.helix_json.specs.Inner.Scan.{HasRead}
 use Rattle.helix_json.proofs.Viable.{viable, Refuses, refuses_all, value_tokens}
 
 -- no text of the grammar begins so

@@ -4,10 +4,10 @@ use Rattle.std.proofs.lemmas.List.{take_more}
 use Rattle.helix_json.specs.declared.token.Token.{Token}
 use Rattle.helix_json.specs.declared.token.Token.TheVariants as token
 use Rattle.helix_json.specs.Broken.{BeginsTooDeep, Opens, level_behind}
-use Rattle.helix_json.specs.Rules.{IsFirstAt}
+use Rattle.helix_json.specs.Inner.Rules.{IsFirstAt}
 use Rattle.helix_json.proofs.Firsts.{NoneBefore, found_at, none_more}
 
-level-append : (level : ℕ) (xs ys : List Token) → level_behind level (xs ++ ys) ≡ level_behind (level_behind level xs) ys
+pub level-append : (level : ℕ) (xs ys : List Token) → level_behind level (xs ++ ys) ≡ level_behind (level_behind level xs) ys
 level-append level [] ys = refl
 level-append level (token.OpenList ∷ xs) ys = level-append (level + 1) xs ys
 level-append level (token.OpenObject ∷ xs) ys = level-append (level + 1) xs ys

@@ -8,12 +8,12 @@ use Rattle.helix_json.specs.declared.string.StringState.TheVariants as state
 use Rattle.helix_json.specs.declared.string.StringMove.TheVariants as move
 use Rattle.helix_json.specs.declared.digits.NumberState.{NumberState}
 use Rattle.helix_json.specs.Broken.{LeavesGrammar}
-use Rattle.helix_json.specs.NumberSteps.{kind_of, number_step, number_ends}
-use Rattle.helix_json.specs.StringSteps.{Fine, string_step}
-use Rattle.helix_json.specs.Lexer.{Lex, between, in_string, in_number, lex_step, string_move, number_move, end_number, end_tokens, between_step}
-use Rattle.helix_json.specs.Machine.{Reading, step}
-use Rattle.helix_json.specs.Scan.{may_go, FineLex, HasRead}
-use Rattle.helix_json.specs.Lexeme.{ReadsNumber}
+use Rattle.helix_json.specs.Inner.NumberSteps.{kind_of, number_step, number_ends}
+use Rattle.helix_json.specs.Inner.StringSteps.{Fine, string_step}
+use Rattle.helix_json.specs.Inner.Lexer.{Lex, between, in_string, in_number, lex_step, string_move, number_move, end_number, end_tokens, between_step}
+use Rattle.helix_json.specs.Inner.Machine.{Reading, step}
+use Rattle.helix_json.specs.Inner.Scan.{may_go, FineLex, HasRead}
+use Rattle.helix_json.specs.Inner.Lexeme.{ReadsNumber}
 use Rattle.helix_base.specs.Inner.ScalarLaws.{scalar_at}
 use Rattle.std.specs.Str.{all_scalars}
 use Rattle.helix_json.proofs.StringSafe.{go_fine}

@@ -1,6 +1,6 @@
 -- A text of tokens that lead to a value is cut in one way.
 use Rattle.std.proofs.Common.{◌≡◌, ℕ, ◌≤◌, ◌<◌, ◌⊎◌, inl, inr, true, false, IsTrue, ◌==◌, ◌||◌, Option, Some, None, List, [], ◌∷◌, ◌++◌, refl, sym, ◌∙◌, ap, subst, arith, append_assoc}
-use Rattle.std.proofs.lemmas.Bool.{eqb-true, cond-true, cond-false}
+use Rattle.std.proofs.lemmas.Bool.{eqb-true, cond-true, cond-false, false_from_ne_true, ne_eqb, or_cases}
 use Rattle.std.proofs.lemmas.List.{append-nil}
 use Rattle.helix_json.specs.declared.value.Json.{Json}
 use Rattle.helix_json.specs.declared.value.Json as json
@@ -14,15 +14,14 @@ use Rattle.helix_json.specs.declared.digits.NumberState.{NumberState}
 use Rattle.helix_json.specs.declared.digits.NumberState.TheVariants as number
 use Rattle.helix_json.specs.declared.digits.NumberCharacter.{NumberCharacter}
 use Rattle.helix_json.specs.declared.digits.NumberCharacter.TheVariants as kind
-use Rattle.helix_json.specs.NumberSteps.{kind_of, number_step, if_some, accepts}
+use Rattle.helix_json.specs.Inner.NumberSteps.{kind_of, number_step, if_some, accepts}
 use Rattle.helix_json.specs.Text.{is_blank, AreBlanks, SpellsToken, Cuts, SpellsText}
 use Rattle.helix_json.specs.Tokens.{tokens}
-use Rattle.helix_json.specs.Lexer.{Lex, between, in_string, in_number, lex, on_emission, prepend, class, by_class, between_step, mark_token, begin_number, number_move, end_number, end_tokens, with_token, Emission}
-use Rattle.helix_json.specs.Machine.{Reading, value, first_item, first_key, key, colon, after, Frame, in_list, in_object, run, step, on_some}
+use Rattle.helix_json.specs.Inner.Lexer.{Lex, between, in_string, in_number, lex, on_emission, prepend, class, by_class, between_step, mark_token, begin_number, number_move, end_number, end_tokens, with_token, Emission}
+use Rattle.helix_json.specs.Inner.Machine.{Reading, value, first_item, first_key, key, colon, after, Frame, in_list, in_object, run, step, on_some}
 use Rattle.helix_json.proofs.Machine.{run_tokens, tokens_same}
 use Rattle.helix_json.proofs.NumberGrammar.{tail_to, Means, means}
 use Rattle.helix_json.proofs.Strings.{prepend_nil, chars_read}
-use Rattle.helix_json.proofs.Decides.{bool_false, differ, either_of}
 
 -- what a class says of a character
 abbrev pub mark_code : Mark → ℕ
@@ -37,9 +36,9 @@ pub blank_class : (c : ℕ) → IsTrue (is_blank c) → class c ≡ class_is.Bla
 blank_class c e = cond-true _ _ _ e
 
 blank_cases : (c : ℕ) → IsTrue (is_blank c) → kind_of c ≡ kind.Other
-blank_cases c e = elim (either_of _ _ e) [
-  | inl f ↦ (elim (either_of _ _ f) [
-    | inl g ↦ (elim (either_of _ _ g) [ inl h ↦ ap kind_of (eqb-true c 32 h) | inr h ↦ ap kind_of (eqb-true c 9 h) ])
+blank_cases c e = elim (or_cases _ _ e) [
+  | inl f ↦ (elim (or_cases _ _ f) [
+    | inl g ↦ (elim (or_cases _ _ g) [ inl h ↦ ap kind_of (eqb-true c 32 h) | inr h ↦ ap kind_of (eqb-true c 9 h) ])
     | inr g ↦ ap kind_of (eqb-true c 10 g)
   ])
   | inr f ↦ ap kind_of (eqb-true c 13 f)
@@ -49,21 +48,21 @@ at_most : (c k : ℕ) → 44 < c → k ≤ 44 → (c == k) ≡ true → ⊥
 at_most c k low small e = let f : c ≡ k = eqb-true c k e in omega arith
 
 blank_least : (c : ℕ) → 44 < c → (((c == 32 || c == 9) ≡ true) ⊎ ((c == 10) ≡ true)) → ⊥
-blank_least c low (inl f) = elim (either_of _ _ f) [ inl g ↦ at_most c 32 low (omega arith) g | inr g ↦ at_most c 9 low (omega arith) g ]
+blank_least c low (inl f) = elim (or_cases _ _ f) [ inl g ↦ at_most c 32 low (omega arith) g | inr g ↦ at_most c 9 low (omega arith) g ]
 blank_least c low (inr f) = at_most c 10 low (omega arith) f
 
 blank_small : (c : ℕ) → 44 < c → IsTrue (is_blank c) → ⊥
-blank_small c low e = elim (either_of _ _ e) [ inl f ↦ blank_least c low (either_of _ _ f) | inr f ↦ at_most c 13 low (omega arith) f ]
+blank_small c low e = elim (or_cases _ _ e) [ inl f ↦ blank_least c low (or_cases _ _ f) | inr f ↦ at_most c 13 low (omega arith) f ]
 
 not_blank : (c : ℕ) → 44 < c → is_blank c ≡ false
-not_blank c low = bool_false _ (λ e. blank_small c low e)
+not_blank c low = false_from_ne_true _ (λ e. blank_small c low e)
 
 -- a character that begins a number
 other_class : (c : ℕ) → 44 < c → c < 58 → class c ≡ class_is.Other
-other_class c low high = cond-false _ _ _ (not_blank c low) ∙ (cond-false _ _ _ (differ c 91 (λ e. omega arith)) ∙ (cond-false _ _ _ (differ c 93 (λ e. omega arith))
-    ∙ (cond-false _ _ _ (differ c 123 (λ e. omega arith)) ∙ (cond-false _ _ _ (differ c 125 (λ e. omega arith)) ∙ (cond-false _ _ _ (differ c 44 (λ e. omega arith))
-    ∙ (cond-false _ _ _ (differ c 58 (λ e. omega arith)) ∙ (cond-false _ _ _ (differ c 34 (λ e. omega arith)) ∙ (cond-false _ _ _ (differ c 110 (λ e. omega arith))
-    ∙ (cond-false _ _ _ (differ c 116 (λ e. omega arith)) ∙ cond-false _ _ _ (differ c 102 (λ e. omega arith)))))))))))
+other_class c low high = cond-false _ _ _ (not_blank c low) ∙ (cond-false _ _ _ (ne_eqb c 91 (λ e. omega arith)) ∙ (cond-false _ _ _ (ne_eqb c 93 (λ e. omega arith))
+    ∙ (cond-false _ _ _ (ne_eqb c 123 (λ e. omega arith)) ∙ (cond-false _ _ _ (ne_eqb c 125 (λ e. omega arith)) ∙ (cond-false _ _ _ (ne_eqb c 44 (λ e. omega arith))
+    ∙ (cond-false _ _ _ (ne_eqb c 58 (λ e. omega arith)) ∙ (cond-false _ _ _ (ne_eqb c 34 (λ e. omega arith)) ∙ (cond-false _ _ _ (ne_eqb c 110 (λ e. omega arith))
+    ∙ (cond-false _ _ _ (ne_eqb c 116 (λ e. omega arith)) ∙ cond-false _ _ _ (ne_eqb c 102 (λ e. omega arith)))))))))))
 
 number_class : (c : ℕ) (k : NumberCharacter) (n : NumberState) → Means k c → number_step number.Nothing k ≡ Some n → class c ≡ class_is.Other
 number_class c kind.Minus n m e = other_class c (omega arith) (omega arith)

@@ -3,7 +3,7 @@ pub mod Options
 pub mod Parts
 pub mod NumberGrammar
 pub mod Machine
-pub mod Decides
+pub mod Choices
 pub mod Strings
 pub mod Lexing
 pub mod OneValue
@@ -29,6 +29,8 @@ pub mod Stays
 pub mod Starts
 pub mod Repeats
 pub mod Checked
+pub mod KeyRules
+pub mod Nesting
 pub mod Places
 pub mod Verdicts
 pub mod Found

@@ -8,7 +8,7 @@ use Rattle.helix_json.specs.declared.value.Member.{Member}
 use Rattle.helix_json.specs.declared.token.Token.{Token}
 use Rattle.helix_json.specs.declared.token.Token.TheVariants as token
 use Rattle.helix_json.specs.Tokens.{tokens, first_item as first_item_tokens, next_item, first_member, next_member}
-use Rattle.helix_json.specs.Machine.{Frame, in_list, in_object, Reading, value, first_item, first_key, key, colon, after, step, value_step, on_some, run}
+use Rattle.helix_json.specs.Inner.Machine.{Frame, in_list, in_object, Reading, value, first_item, first_key, key, colon, after, step, value_step, on_some, run}
 
 -- rows as lists
 abbrev pub items : {n : _} → Row_of-Json n → List Json

@@ -8,8 +8,8 @@ use Rattle.helix_json.specs.declared.need.Container.{Container}
 use Rattle.helix_json.specs.declared.need.Container.TheVariants as container
 use Rattle.helix_json.specs.declared.need.Advance.{Advance}
 use Rattle.helix_json.specs.declared.need.Advance.TheVariants as advance
-use Rattle.helix_json.specs.Machine.{Reading, value, first_item, first_key, key, colon, after, Frame, in_list, in_object, step, value_step}
-use Rattle.helix_json.specs.Need.{kind_of_token, need_step, value_need, need_of, opened, containers, innermost}
+use Rattle.helix_json.specs.Inner.Machine.{Reading, value, first_item, first_key, key, colon, after, Frame, in_list, in_object, step, value_step}
+use Rattle.helix_json.specs.Inner.Need.{kind_of_token, need_step, value_need, need_of, opened, containers, innermost}
 
 -- behind a value the innermost container is known
 abbrev pub Knows : Reading → Option Container → Type 0

@@ -6,7 +6,7 @@ use Rattle.helix_json.specs.declared.digits.NumberState.TheVariants as state
 use Rattle.helix_json.specs.declared.digits.NumberCharacter.{NumberCharacter}
 use Rattle.helix_json.specs.declared.digits.NumberCharacter.TheVariants as kind
 use Rattle.helix_json.specs.Numbers.{IsDigit, AreDigits, Exponent, no_exponent, power, Sign, plus, minus, no_sign, IsWhole, IsExponent, fraction_text, exponent_text, sign_text, minus_text, IsNumber}
-use Rattle.helix_json.specs.NumberSteps.{kind_of, number_step, number_ends, if_some, accepts}
+use Rattle.helix_json.specs.Inner.NumberSteps.{kind_of, number_step, number_ends, if_some, accepts}
 use Rattle.std.proofs.lemmas.Bool.{eqb-true, eq-eqb, leb-true, leb-false}
 
 -- what a kind says of a character

@@ -4,9 +4,9 @@ use Rattle.std.proofs.lemmas.List.{append-nil, append_cancel_left, take-append-d
 use Rattle.helix_json.specs.declared.token.Token.{Token}
 use Rattle.helix_json.specs.Text.{is_blank, SpellsToken, Cuts}
 use Rattle.helix_json.specs.Broken.{BeginsAt}
-use Rattle.helix_json.specs.Lexer.{between, lex, prepend}
-use Rattle.helix_json.specs.Machine.{Reading}
-use Rattle.helix_json.specs.Progress.{Stands, Begins, AllBegin}
+use Rattle.helix_json.specs.Inner.Lexer.{between, lex, prepend}
+use Rattle.helix_json.specs.Inner.Machine.{Reading}
+use Rattle.helix_json.specs.Inner.Progress.{Stands, Begins, AllBegin}
 use Rattle.helix_json.proofs.NumberGrammar.{true_not_false}
 use Rattle.helix_json.proofs.Sound.{sound}
 use Rattle.helix_json.proofs.Viable.{unprepend_all}

@@ -13,7 +13,7 @@ use Rattle.std.proofs.lemmas.List.{drop_more, drop_at, take_at}
 use Rattle.helix_json.specs.declared.token.Token.{Token}
 use Rattle.helix_json.specs.declared.token.Token.TheVariants as token
 use Rattle.helix_json.specs.Broken.{RepeatsKey, stays}
-use Rattle.helix_json.specs.Scopes.{BeginsWithKey}
+use Rattle.helix_json.specs.Inner.Scopes.{BeginsWithKey}
 use Rattle.helix_json.proofs.Firsts.{cut_at}
 use Rattle.helix_json.proofs.Starts.{IsStart, one_start, start_before, stays_between}
 

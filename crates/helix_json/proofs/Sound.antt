@@ -16,18 +16,18 @@ use Rattle.helix_json.specs.declared.string.StringMove.{StringMove}
 use Rattle.helix_json.specs.declared.string.StringMove.TheVariants as move
 use Rattle.helix_json.specs.declared.digits.NumberState.{NumberState}
 use Rattle.helix_json.specs.declared.digits.NumberState.TheVariants as number
-use Rattle.helix_json.specs.NumberSteps.{kind_of, number_step, number_ends, if_some, accepts}
-use Rattle.helix_json.specs.StringSteps.{Fine, string_step}
+use Rattle.helix_json.specs.Inner.NumberSteps.{kind_of, number_step, number_ends, if_some, accepts}
+use Rattle.helix_json.specs.Inner.StringSteps.{Fine, string_step}
 use Rattle.helix_json.specs.Numbers.{IsNumber}
 use Rattle.helix_json.specs.Text.{is_blank, SpellsToken, SpellsChars, Cuts}
-use Rattle.helix_json.specs.Lexer.{Lex, between, in_string, in_number, in_word, lex, lex_step, lex_end, on_emission, prepend, class, by_class, between_step, mark_token, word_token, word_rest, word_move, string_move, begin_number, number_move, end_number, end_tokens}
+use Rattle.helix_json.specs.Inner.Lexer.{Lex, between, in_string, in_number, in_word, lex, lex_step, lex_end, on_emission, prepend, class, by_class, between_step, mark_token, word_token, word_rest, word_move, string_move, begin_number, number_move, end_number, end_tokens}
 use Rattle.helix_json.proofs.NumberGrammar.{tail_from}
 use Rattle.helix_json.proofs.Lexing.{mark_code, with_front}
 use Rattle.std.specs.Char.{digit_value}
 use Rattle.helix_json.specs.Text.{escaped}
-use Rattle.helix_json.specs.StringSteps.{give_or_refuse}
+use Rattle.helix_json.specs.Inner.StringSteps.{give_or_refuse}
 use Rattle.helix_json.proofs.StringBack.{Prefix, After, string_after, unit_cases, low_cases}
-use Rattle.helix_json.proofs.Decides.{choose}
+use Rattle.helix_json.proofs.Choices.{choose}
 
 -- what a class says of a character
 abbrev ClassMeans : Class → ℕ → Type 0

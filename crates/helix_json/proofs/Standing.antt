@@ -5,11 +5,11 @@ use Rattle.helix_json.specs.declared.token.Token.{Token}
 use Rattle.helix_json.specs.declared.token.Token.TheVariants as token
 use Rattle.helix_json.specs.declared.digits.NumberState.{NumberState}
 use Rattle.helix_json.specs.Broken.{LeavesGrammar}
-use Rattle.helix_json.specs.NumberSteps.{kind_of, number_step, number_ends}
-use Rattle.helix_json.specs.Lexer.{Lex, between, in_number, lex, prepend, on_emission, between_step, number_move, end_number, end_tokens}
-use Rattle.helix_json.specs.Machine.{Reading, value, run, step}
-use Rattle.helix_json.specs.Scan.{may_go, FineLex, HasRead}
-use Rattle.helix_json.specs.Progress.{Stands}
+use Rattle.helix_json.specs.Inner.NumberSteps.{kind_of, number_step, number_ends}
+use Rattle.helix_json.specs.Inner.Lexer.{Lex, between, in_number, lex, prepend, on_emission, between_step, number_move, end_number, end_tokens}
+use Rattle.helix_json.specs.Inner.Machine.{Reading, value, run, step}
+use Rattle.helix_json.specs.Inner.Scan.{may_go, FineLex, HasRead}
+use Rattle.helix_json.specs.Inner.Progress.{Stands}
 use Rattle.helix_json.proofs.Machine.{run-append}
 use Rattle.helix_json.proofs.Lexing.{with_front}
 use Rattle.helix_json.proofs.Endings.{run_one}

@@ -5,7 +5,7 @@ use Rattle.std.proofs.lemmas.List.{drop_at, drop-append-le, drop_all, length_pus
 use Rattle.helix_json.specs.declared.token.Token.{Token}
 use Rattle.helix_json.specs.declared.token.Token.TheVariants as token
 use Rattle.helix_json.specs.Broken.{Opens, stays}
-use Rattle.helix_json.specs.Scopes.{Closes, Passes}
+use Rattle.helix_json.specs.Inner.Scopes.{Closes, Passes}
 use Rattle.helix_json.proofs.Stays.{stays_behind, stays-back, still_open, closes_again, closes_none}
 
 -- behind so many of the tokens before it, each container that opened has closed again; and no fewer will do

@@ -8,7 +8,7 @@ use Rattle.helix_json.specs.declared.token.Token.{Token}
 use Rattle.helix_json.specs.declared.token.Token.TheVariants as token
 use Rattle.helix_json.specs.Tokens.{tokens, first_item, next_item, first_member, next_member}
 use Rattle.helix_json.specs.Broken.{Opens, stays}
-use Rattle.helix_json.specs.Scopes.{Closes}
+use Rattle.helix_json.specs.Inner.Scopes.{Closes}
 
 -- what closes k containers leaves the others open
 pub stays-front : (k l m : ℕ) (xs ys : List Token) → stays k xs ≡ true → m ≡ k + l → stays m (xs ++ ys) ≡ stays l ys

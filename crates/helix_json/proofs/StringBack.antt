@@ -1,16 +1,16 @@
 -- What has been read of a string's character, and what one more character of the text makes of it.
 use Rattle.std.proofs.Common.{◌≡◌, ℕ, ◌+◌, ◌*◌, ◌-◌, ◌≤◌, ◌<◌, inl, inr, zero, suc, Bool, true, false, ◌==◌, ◌&&◌, ◌||◌, nat_le, nat_lt, Option, Some, None, List, [], ◌∷◌, ◌++◌, length, refl, sym, ◌∙◌, ap, subst, arith, append_assoc}
-use Rattle.std.proofs.lemmas.Bool.{eqb-true, leb-true, leb-false, ltb-true, ltb-false, eq-eqb, le-leb, lt-ltb}
+use Rattle.std.proofs.lemmas.Bool.{eqb-true, leb-true, leb-false, ltb-true, ltb-false, eq-eqb, le-leb, lt-ltb, and_parts}
 use Rattle.std.specs.Char.{digit_value}
 use Rattle.helix_json.specs.declared.string.StringState.{StringState}
 use Rattle.helix_json.specs.declared.string.StringState.TheVariants as state
 use Rattle.helix_json.specs.declared.string.StringMove.{StringMove}
 use Rattle.helix_json.specs.declared.string.StringMove.TheVariants as move
 use Rattle.helix_json.specs.Text.{SpellsUnit, IsHigh, IsLow, How, itself, by_letter, by_unit, by_pair, SpellsAs, escaped}
-use Rattle.helix_json.specs.StringSteps.{UnitFine, LowFine, Fine, string_step, plain_step, backslash_step, give_or_refuse, unit_step, low_step}
+use Rattle.helix_json.specs.Inner.StringSteps.{UnitFine, LowFine, Fine, string_step, plain_step, backslash_step, give_or_refuse, unit_step, low_step}
 use Rattle.helix_json.proofs.Decimal.{le_or_lt}
 use Rattle.helix_json.proofs.NumberGrammar.{true_not_false}
-use Rattle.helix_json.proofs.Decides.{both_of, choose}
+use Rattle.helix_json.proofs.Choices.{choose}
 
 pub two_true : (a b : Bool) → a ≡ true → b ≡ true → (a && b) ≡ true
 two_true true b e f = f
@@ -102,7 +102,7 @@ unit_cases P n v h refuse go high give =
     choose P (n == 1 && (v == 13 && nat_le 12 h)) _ _ (λ _. refuse) (λ low.
     choose P (nat_lt n 3) _ _ (λ few. go (leb-false 16 h small) (λ a b. below_twelve n v h low a b) (ltb-true n 3 few)) (λ many.
     choose P (nat_le 0xD800 (v * 16 + h) && nat_lt (v * 16 + h) 0xDC00) _ _
-    (λ is. let p : (nat_le 0xD800 (v * 16 + h) ≡ true) × (nat_lt (v * 16 + h) 0xDC00 ≡ true) = both_of _ _ is in
+    (λ is. let p : (nat_le 0xD800 (v * 16 + h) ≡ true) × (nat_lt (v * 16 + h) 0xDC00 ≡ true) = and_parts _ _ is in
     high (leb-false 16 h small) (ltb-false n 3 many) (leb-true _ _ p.0) (ltb-true _ _ p.1))
     (λ is. give (leb-false 16 h small) (ltb-false n 3 many) (λ from. not_between (v * 16 + h) is from)))))
 

@@ -1,6 +1,6 @@
 -- The characters of a string, read one character of the text after the other.
 use Rattle.std.proofs.Common.{◌≡◌, ◌≢◌, ℕ, ◌+◌, ◌*◌, ◌-◌, ◌≤◌, ◌<◌, ◌⊎◌, inl, inr, Bool, true, false, ◌==◌, ◌&&◌, nat_le, nat_lt, Option, Some, None, List, [], ◌∷◌, ◌++◌, refl, sym, ◌∙◌, ap, arith, append_assoc}
-use Rattle.std.proofs.lemmas.Bool.{eqb-true, leb-true, ltb-true, le-leb, lt-ltb, cond-true, cond-false}
+use Rattle.std.proofs.lemmas.Bool.{eqb-true, leb-true, ltb-true, le-leb, lt-ltb, cond-true, cond-false, false_from_ne_true, ne_eqb, lt-leb, le-ltb, or_cases, and_parts}
 use Rattle.std.proofs.lemmas.List.{append-nil}
 use Rattle.std.specs.Char.{digit_value}
 use Rattle.helix_json.specs.declared.token.Token.{Token}
@@ -9,10 +9,9 @@ use Rattle.helix_json.specs.declared.string.StringState.{StringState}
 use Rattle.helix_json.specs.declared.string.StringState.TheVariants as state
 use Rattle.helix_json.specs.declared.string.StringMove.TheVariants as move
 use Rattle.helix_json.specs.Text.{IsHigh, IsLow, How, itself, by_letter, by_unit, by_pair, SpellsAs, SpellsChars, escaped}
-use Rattle.helix_json.specs.StringSteps.{string_step, give_or_refuse, unit_step, low_step}
-use Rattle.helix_json.specs.Lexer.{between, in_string, lex, on_emission, prepend, string_move}
+use Rattle.helix_json.specs.Inner.StringSteps.{string_step, give_or_refuse, unit_step, low_step}
+use Rattle.helix_json.specs.Inner.Lexer.{between, in_string, lex, on_emission, prepend, string_move}
 use Rattle.helix_json.proofs.Decimal.{le_or_lt}
-use Rattle.helix_json.proofs.Decides.{bool_false, differ, not_le, not_lt, either_of, both_of}
 
 pub prepend_nil : (o : Option (List Token)) → prepend [] o ≡ o
 prepend_nil None = refl
@@ -27,22 +26,22 @@ unfolding lex
 lex_give c d cs sofar s e = ap (λ m. on_emission (string_move sofar m) (λ l. lex cs l)) e ∙ prepend_nil _
 
 plain_gives : (c : ℕ) → 32 ≤ c → c ≢ 34 → c ≢ 92 → string_step state.Plain c ≡ move.Give c
-plain_gives c low quote slash = cond-false _ _ _ (differ c 34 quote) ∙ (cond-false _ _ _ (differ c 92 slash) ∙ cond-false _ _ _ (not_lt c 32 low))
+plain_gives c low quote slash = cond-false _ _ _ (ne_eqb c 34 quote) ∙ (cond-false _ _ _ (ne_eqb c 92 slash) ∙ cond-false _ _ _ (le-ltb c 32 low))
 
 letter_gives : (letter c : ℕ) → escaped letter ≡ Some c → string_step state.Backslash letter ≡ move.Give c
 letter_gives letter c e =
-    cond-false _ _ _ (differ letter 117 (λ f. let g : None ≡ Some c = ap escaped (sym f) ∙ e in cc)) ∙ ap give_or_refuse e
+    cond-false _ _ _ (ne_eqb letter 117 (λ f. let g : None ≡ Some c = ap escaped (sym f) ∙ e in cc)) ∙ ap give_or_refuse e
 
 unit_goes : (n v h : ℕ) → h < 16 → ((n ≡ 1) → (v ≡ 13) → h < 12) → n < 3 → unit_step n v h ≡ move.Go (state.Unit (n + 1) (v * 16 + h))
-unit_goes n v h small low few = cond-false _ _ _ (not_le 16 h small) ∙ (cond-false _ _ _
-    (bool_false _ (λ e. let f : ((n == 1) ≡ true) × ((v == 13 && nat_le 12 h) ≡ true) = both_of _ _ e in
-    let g : ((v == 13) ≡ true) × (nat_le 12 h ≡ true) = both_of _ _ f.1 in
+unit_goes n v h small low few = cond-false _ _ _ (lt-leb 16 h small) ∙ (cond-false _ _ _
+    (false_from_ne_true _ (λ e. let f : ((n == 1) ≡ true) × ((v == 13 && nat_le 12 h) ≡ true) = and_parts _ _ e in
+    let g : ((v == 13) ≡ true) × (nat_le 12 h ≡ true) = and_parts _ _ f.1 in
     let i : h < 12 = low (eqb-true n 1 f.0) (eqb-true v 13 g.0) in let j : 12 ≤ h = leb-true 12 h g.1 in omega arith))
     ∙ cond-true _ _ _ (lt-ltb n 3 few))
 
 unit_last : (v h : ℕ) → h < 16 → (v * 16 + h < 0xD800) ⊎ (0xDC00 ≤ v * 16 + h) → unit_step 3 v h ≡ move.Give (v * 16 + h)
-unit_last v h small out = cond-false _ _ _ (not_le 16 h small) ∙ cond-false _ _ _
-    (bool_false _ (λ e. let f : (nat_le 0xD800 (v * 16 + h) ≡ true) × (nat_lt (v * 16 + h) 0xDC00 ≡ true) = both_of _ _ e in
+unit_last v h small out = cond-false _ _ _ (lt-leb 16 h small) ∙ cond-false _ _ _
+    (false_from_ne_true _ (λ e. let f : (nat_le 0xD800 (v * 16 + h) ≡ true) × (nat_lt (v * 16 + h) 0xDC00 ≡ true) = and_parts _ _ e in
     let g : 0xD800 ≤ v * 16 + h = leb-true 0xD800 (v * 16 + h) f.0 in let i : v * 16 + h < 0xDC00 = ltb-true (v * 16 + h) 0xDC00 f.1 in
     elim out [ inl o ↦ omega arith | inr o ↦ omega arith ]))
 
@@ -51,26 +50,26 @@ and_true true b e f = f
 and_true false b e f = cc
 
 unit_high : (v h : ℕ) → h < 16 → 0xD800 ≤ v * 16 + h → v * 16 + h < 0xDC00 → unit_step 3 v h ≡ move.Go (state.High (v * 16 + h))
-unit_high v h small low high = cond-false _ _ _ (not_le 16 h small) ∙ cond-true _ _ _
+unit_high v h small low high = cond-false _ _ _ (lt-leb 16 h small) ∙ cond-true _ _ _
     (and_true _ _ (le-leb 0xD800 (v * 16 + h) low) (lt-ltb (v * 16 + h) 0xDC00 high))
 
 first_is : (n h : ℕ) → ((n ≡ 0) → h ≡ 13) → (((n == 0 && nat_lt h 13) ≡ true) ⊎ ((n == 0 && nat_lt 13 h) ≡ true)) → ⊥
-first_is n h first (inl f) = let g : ((n == 0) ≡ true) × (nat_lt h 13 ≡ true) = both_of _ _ f in let i : h ≡ 13 = first (eqb-true n 0 g.0) in
+first_is n h first (inl f) = let g : ((n == 0) ≡ true) × (nat_lt h 13 ≡ true) = and_parts _ _ f in let i : h ≡ 13 = first (eqb-true n 0 g.0) in
     let j : h < 13 = ltb-true h 13 g.1 in omega arith
-first_is n h first (inr f) = let g : ((n == 0) ≡ true) × (nat_lt 13 h ≡ true) = both_of _ _ f in let i : h ≡ 13 = first (eqb-true n 0 g.0) in
+first_is n h first (inr f) = let g : ((n == 0) ≡ true) × (nat_lt 13 h ≡ true) = and_parts _ _ f in let i : h ≡ 13 = first (eqb-true n 0 g.0) in
     let j : 13 < h = ltb-true 13 h g.1 in omega arith
 
 second_is : (n h : ℕ) → ((n ≡ 1) → 12 ≤ h) → (n == 1 && nat_lt h 12) ≡ true → ⊥
-second_is n h second e = let g : ((n == 1) ≡ true) × (nat_lt h 12 ≡ true) = both_of _ _ e in
+second_is n h second e = let g : ((n == 1) ≡ true) × (nat_lt h 12 ≡ true) = and_parts _ _ e in
     let i : 12 ≤ h = second (eqb-true n 1 g.0) in let j : h < 12 = ltb-true h 12 g.1 in omega arith
 
 low_goes : (high n v h : ℕ) → h < 16 → ((n ≡ 0) → h ≡ 13) → ((n ≡ 1) → 12 ≤ h) → n < 3 → low_step high n v h ≡ move.Go (state.Low high (n + 1) (v * 16 + h))
-low_goes high n v h small first second few = cond-false _ _ _ (not_le 16 h small)
-    ∙ (cond-false _ _ _ (bool_false _ (λ e. first_is n h first (either_of _ _ e)))
-    ∙ (cond-false _ _ _ (bool_false _ (second_is n h second)) ∙ cond-true _ _ _ (lt-ltb n 3 few)))
+low_goes high n v h small first second few = cond-false _ _ _ (lt-leb 16 h small)
+    ∙ (cond-false _ _ _ (false_from_ne_true _ (λ e. first_is n h first (or_cases _ _ e)))
+    ∙ (cond-false _ _ _ (false_from_ne_true _ (second_is n h second)) ∙ cond-true _ _ _ (lt-ltb n 3 few)))
 
 low_last : (high v h : ℕ) → h < 16 → low_step high 3 v h ≡ move.Give (0x10000 + (high - 0xD800) * 0x400 + (v * 16 + h - 0xDC00))
-low_last high v h small = cond-false _ _ _ (not_le 16 h small)
+low_last high v h small = cond-false _ _ _ (lt-leb 16 h small)
 
 below_or : (h : ℕ) → (12 ≤ h → ⊥) → h < 12
 below_or h f = elim (le_or_lt 12 h) [ inl le ↦ absurd (f le) | inr lt ↦ lt ]

@@ -10,9 +10,9 @@ use Rattle.helix_json.specs.declared.need.TokenKind.{TokenKind}
 use Rattle.helix_json.specs.declared.need.Advance.{Advance}
 use Rattle.helix_json.specs.declared.need.Advance.TheVariants as advance
 use Rattle.helix_json.specs.declared.nest.Nest.{Nest}
-use Rattle.helix_json.specs.Machine.{Reading, value, first_item, first_key, key, colon, after, Frame, in_list, in_object, step}
-use Rattle.helix_json.specs.Need.{kind_of_token, need_step, need_of, opened, containers, innermost, IsLast}
-use Rattle.helix_json.specs.Progress.{Tracks}
+use Rattle.helix_json.specs.Inner.Machine.{Reading, value, first_item, first_key, key, colon, after, Frame, in_list, in_object, step}
+use Rattle.helix_json.specs.Inner.Need.{kind_of_token, need_step, need_of, opened, containers, innermost, IsLast}
+use Rattle.helix_json.specs.Inner.Progress.{Tracks}
 use Rattle.helix_json.proofs.Needs.{Knows, Does, does}
 
 pub no_push : (cs : List Container) (c : Container) → cs ++ c ∷ [] ≡ [] → ⊥

@@ -9,8 +9,11 @@ use Rattle.helix_json.specs.declared.token.Token.{Token}
 use Rattle.helix_json.specs.Tokens.{tokens}
 use Rattle.helix_json.specs.Text.{SpellsText}
 use Rattle.helix_json.specs.Broken.{AreBytesOf, SpellsJson, FirstIn, FirstBroken, IsShort, Nowhere}
-use Rattle.helix_json.specs.Reading.{Breaks, IsSound}
+use Rattle.helix_json.specs.Inner.Reading.{Breaks, IsSound}
+use Rattle.helix_json.specs.Values.{HasNoRepeatedKey, nesting}
+use Rattle.helix_json.proofs.KeyRules.{keyed_value}
 use Rattle.helix_json.proofs.Lexing.{one_value}
+use Rattle.helix_json.proofs.Nesting.{shallow_value}
 
 pub are_bytes : (bytes text : List ℕ) → IsUtf8 bytes → text ≡ chars bytes → AreBytesOf text bytes
 are_bytes bytes text h e = subst (λ t. AreBytesOf t bytes) (sym e) (scalars-chars bytes h, sym (encodes-chars bytes h))
@@ -45,6 +48,15 @@ broken bytes text short are (fault.Grammar at) (count, leaves, place) ne = (shor
 broken bytes text short are (fault.TooDeep at) (v, count, spells, first, place) ne = (short, (text, v, count, are, spells, first, place))
 broken bytes text short are (fault.DuplicateKey at) (v, count, spells, shallow, first, place) ne = (short, (text, v, count, are, spells, shallow, first, place))
 broken bytes text short are fault.Memory b ne = absurd (ne refl)
+
+-- a value that breaks no rule keeps the rules as a value
+pub on_keys : (text : List ℕ) (r : Result Json JsonFault) → IfOk r (IsSound text) → IfOk r HasNoRepeatedKey
+on_keys text (Ok v) sound = keyed_value v sound.keyed
+on_keys text (Err f) sound = tt
+
+pub on_depth : (text : List ℕ) (r : Result Json JsonFault) → IfOk r (IsSound text) → IfOk r (λ v. nesting v ≤ 64)
+on_depth text (Ok v) sound = shallow_value v sound.shallow
+on_depth text (Err f) sound = tt
 
 module _ (bytes text : List ℕ) (short : IsShort bytes) (are : AreBytesOf text bytes) where
   pub on_value : (r : Result Json JsonFault) → IfOk r (IsSound text) → IfOk r (SpellsJson bytes)

@@ -6,9 +6,9 @@ use Rattle.helix_json.specs.declared.token.Token.TheVariants as token
 use Rattle.helix_json.specs.Text.{SpellsText}
 use Rattle.helix_json.specs.Tokens.{tokens}
 use Rattle.helix_json.specs.Broken.{IsViable}
-use Rattle.helix_json.specs.Lexer.{Lex, between, in_string, in_number, in_word, lex, lex_step, on_emission, prepend, word_token}
-use Rattle.helix_json.specs.Machine.{Reading, value, after, run, step, on_some}
-use Rattle.helix_json.specs.Scan.{may_go, FineLex, HasRead}
+use Rattle.helix_json.specs.Inner.Lexer.{Lex, between, in_string, in_number, in_word, lex, lex_step, on_emission, prepend, word_token}
+use Rattle.helix_json.specs.Inner.Machine.{Reading, value, after, run, step, on_some}
+use Rattle.helix_json.specs.Inner.Scan.{may_go, FineLex, HasRead}
 use Rattle.helix_json.proofs.Machine.{run_tokens, run-append, tokens_from, finish, finishes}
 use Rattle.helix_json.proofs.Strings.{prepend_nil}
 use Rattle.helix_json.proofs.Lexing.{lexes_value}

@@ -3,9 +3,9 @@
 ghost use Rattle.std.specs.Prelude.{◌≡◌, List, [], ◌∷◌, IfOk, Some, IsSome};
 ghost use Rattle.helix_json.specs.declared.build.Frame.{Frame as Kept};
 ghost use Rattle.helix_json.specs.Tokens.{tokens as tokens_of};
-ghost use Rattle.helix_json.specs.Rules.{AreTokens};
-ghost use Rattle.helix_json.specs.Machine.{step, value_step, first_item, first_key, after, in_list, in_object};
-ghost use Rattle.helix_json.specs.Building.{reading_of, frames_of};
+ghost use Rattle.helix_json.specs.Inner.Rules.{AreTokens};
+ghost use Rattle.helix_json.specs.Inner.Machine.{step, value_step, first_item, first_key, after, in_list, in_object};
+ghost use Rattle.helix_json.specs.Inner.Building.{reading_of, frames_of};
 
 use crate::token::Token;
 use crate::value::{Items, Json, Member, Members};

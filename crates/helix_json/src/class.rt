@@ -1,7 +1,7 @@
 //! What a character between tokens begins.
 
 ghost use Rattle.std.specs.Prelude.{◌≡◌};
-ghost use Rattle.helix_json.specs.Lexer.{class};
+ghost use Rattle.helix_json.specs.Inner.Lexer.{class};
 
 /// A structural character.
 #[derive(Clone, Copy, Debug)]

@@ -3,7 +3,7 @@
 ghost use Rattle.std.specs.Prelude.{◌≡◌, ◌≤◌, [], ◌∷◌, IfSome, IfNone};
 ghost use Rattle.std.specs.Bool.{MatchBool};
 ghost use Rattle.helix_json.specs.Broken.{BeginsTooDeep, Opens, level_behind};
-ghost use Rattle.helix_json.specs.Rules.{IsFirstAt, HoldsNowhere};
+ghost use Rattle.helix_json.specs.Inner.Rules.{IsFirstAt, HoldsNowhere};
 
 use crate::token::Token;
 

@@ -2,7 +2,7 @@
 
 ghost use Rattle.std.specs.Prelude.{◌≡◌, IsTrue, ◌↔◌, drop};
 ghost use Rattle.helix_json.specs.Numbers.{IsNumber};
-ghost use Rattle.helix_json.specs.NumberSteps.{kind_of, number_step, number_ends, accepts};
+ghost use Rattle.helix_json.specs.Inner.NumberSteps.{kind_of, number_step, number_ends, accepts};
 
 use helix_base::Text;
 

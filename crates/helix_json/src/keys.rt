@@ -2,8 +2,8 @@
 
 ghost use Rattle.std.specs.Prelude.{◌≡◌, ◌<◌, ◌^◌, ℕ, List, length, IfOk, IfSome, IfNone};
 ghost use Rattle.helix_json.specs.Broken.{RepeatsKey};
-ghost use Rattle.helix_json.specs.Rules.{AreTokens, IsFirstAt, HoldsNowhere};
-ghost use Rattle.helix_json.specs.Scopes.{BeginsWithKey, Closes, Passes};
+ghost use Rattle.helix_json.specs.Inner.Rules.{AreTokens, IsFirstAt, HoldsNowhere};
+ghost use Rattle.helix_json.specs.Inner.Scopes.{BeginsWithKey, Closes, Passes};
 
 use crate::token::Token;
 use helix_base::Memory;

@@ -2,8 +2,8 @@
 
 ghost use Rattle.std.specs.Prelude.{◌≡◌, ◌≤◌, ◌<◌, length, IfOk, IsTrue};
 ghost use Rattle.std.specs.Str.{all_scalars};
-ghost use Rattle.helix_json.specs.Lexer.{word_rest};
-ghost use Rattle.helix_json.specs.Lexeme.{ReadsString, ReadsNumber, ReadsLetters};
+ghost use Rattle.helix_json.specs.Inner.Lexer.{word_rest};
+ghost use Rattle.helix_json.specs.Inner.Lexeme.{ReadsString, ReadsNumber, ReadsLetters};
 
 use crate::class::Word;
 use crate::digits::{NumberState, kind_of_code, next_number_state};

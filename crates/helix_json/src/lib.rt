@@ -24,7 +24,7 @@ mod value;
 
 pub use digits::is_number;
 pub use fault::JsonFault;
-pub use laws::{numbers_of_a_value, one_value};
+pub use laws::{numbers_of_a_value, one_value, rules_of_a_value};
 pub use reader::read;
 pub use token::Token;
 pub use units::number_units;

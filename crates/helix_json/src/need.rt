@@ -1,7 +1,7 @@
 //! Which token may come next, whatever the values are.
 
 ghost use Rattle.std.specs.Prelude.{◌≡◌};
-ghost use Rattle.helix_json.specs.Need.{kind_of_token, need_step};
+ghost use Rattle.helix_json.specs.Inner.Need.{kind_of_token, need_step};
 
 use crate::token::Token;
 

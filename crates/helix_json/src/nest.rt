@@ -2,8 +2,8 @@
 
 ghost use Rattle.std.specs.Prelude.{◌≡◌, [], IfOk};
 ghost use Rattle.helix_json.specs.declared.need.Need.TheVariants as need_is;
-ghost use Rattle.helix_json.specs.Need.{IsLast};
-ghost use Rattle.helix_json.specs.Progress.{Allows};
+ghost use Rattle.helix_json.specs.Inner.Need.{IsLast};
+ghost use Rattle.helix_json.specs.Inner.Progress.{Allows};
 
 use crate::need::{Advance, Container, Need, TokenKind, next_need};
 use helix_base::Memory;

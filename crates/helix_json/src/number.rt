@@ -2,7 +2,7 @@
 
 ghost use Rattle.std.specs.Prelude.{◌≡◌, ◌≢◌, ℕ, ℤ, ◌+◌, ◌*◌, ◌^◌, ◌%◌, ◌≤◌, ◌<◌, ◌++◌, ◌⊎◌, Bool, true, false, take, drop, length, nat_abs, min, IfSome, IfNone, IsTrue, ◌↔◌};
 ghost use Rattle.helix_json.specs.Numbers.{IsDigit, AreDigits, IsNumber, IsUnits, digits_value, digits_from, signed};
-ghost use Rattle.helix_json.specs.Pieces.{NoDigit, TakesSign, TakesFraction, TakesExponent, IsReduced, Unreachable};
+ghost use Rattle.helix_json.specs.Inner.Pieces.{NoDigit, TakesSign, TakesFraction, TakesExponent, IsReduced, Unreachable};
 
 use helix_base::Text;
 

@@ -1,7 +1,7 @@
 //! What of a text has been read, between two tokens.
 
 ghost use Rattle.std.specs.Prelude.{◌≡◌, ◌↔◌, [], ◌∷◌, ◌++◌, IsTrue, OnOk};
-ghost use Rattle.helix_json.specs.Progress.{IsWhole};
+ghost use Rattle.helix_json.specs.Inner.Progress.{IsWhole};
 ghost use Rattle.helix_json.specs.declared.need.Need.TheVariants as need_is;
 
 use crate::need::Need;

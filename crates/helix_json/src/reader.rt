@@ -5,8 +5,9 @@ ghost use Rattle.std.specs.Str.{all_scalars};
 ghost use Rattle.helix_json.specs.declared.fault.JsonFault.{JsonFault as Fault};
 ghost use Rattle.helix_json.specs.declared.value.Json.{Json as Value};
 ghost use Rattle.helix_json.specs.Broken.{FirstBroken, SpellsJson, byte_place};
-ghost use Rattle.helix_json.specs.Reading.{Breaks, IsSound};
-ghost use Rattle.helix_json.specs.Scanned.{AreTokensOf};
+ghost use Rattle.helix_json.specs.Inner.Reading.{Breaks, IsSound};
+ghost use Rattle.helix_json.specs.Inner.Scanned.{AreTokensOf};
+ghost use Rattle.helix_json.specs.Values.{HasNoRepeatedKey, nesting};
 
 use crate::build::build;
 use crate::depth::first_too_deep;
@@ -26,6 +27,8 @@ const LONGEST: usize = 1_048_576;
 /// which takes a logarithm more; nesting costs no stack.
 pub fn read(alloc: Global, bytes: &[u8]) -> Result<Json, JsonFault>
     ensures value { IfOk result (SpellsJson bytes.now) }
+    ensures distinct_keys { IfOk result HasNoRepeatedKey }
+    ensures depth { IfOk result (λ value. nesting value ≤ 64) }
     ensures unbroken { OnOk result ((fault : Fault) → ¬ (FirstBroken bytes.now fault)) }
     ensures broken { IfErr result (λ fault. fault ≢ JsonFault.Memory → FirstBroken bytes.now fault) }
 {

@@ -3,10 +3,10 @@
 ghost use Rattle.std.specs.Prelude.{◌≡◌, ◌<◌, length, slice_index, IfOk, IsTrue};
 ghost use Rattle.std.specs.Str.{all_scalars};
 ghost use Rattle.helix_json.specs.declared.class.Class.TheVariants as class_is;
-ghost use Rattle.helix_json.specs.Lexer.{class, mark_token, word_token};
-ghost use Rattle.helix_json.specs.Need.{kind_of_token};
-ghost use Rattle.helix_json.specs.Progress.{HoldsAt, LeadsOn};
-ghost use Rattle.helix_json.specs.Scanned.{IsScan};
+ghost use Rattle.helix_json.specs.Inner.Lexer.{class, mark_token, word_token};
+ghost use Rattle.helix_json.specs.Inner.Need.{kind_of_token};
+ghost use Rattle.helix_json.specs.Inner.Progress.{HoldsAt, LeadsOn};
+ghost use Rattle.helix_json.specs.Inner.Scanned.{IsScan};
 
 use crate::class::{Class, Mark, Word, class_of};
 use crate::digits::{NumberState, is_end_of_number, kind_of_code, next_number_state};

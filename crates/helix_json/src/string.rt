@@ -3,7 +3,7 @@
 ghost use Rattle.std.specs.Prelude.{◌≡◌, ◌≤◌, ◌<◌, Some, None};
 ghost use Rattle.std.specs.Char.{digit_value};
 ghost use Rattle.helix_json.specs.Text.{IsHigh, escaped};
-ghost use Rattle.helix_json.specs.StringSteps.{Fine, LowFine, plain_step, backslash_step, string_step, unit_step, low_step};
+ghost use Rattle.helix_json.specs.Inner.StringSteps.{Fine, LowFine, plain_step, backslash_step, string_step, unit_step, low_step};
 
 /// What of a character has been read: nothing, the backslash, `\u` and digits of the first unit, a
 /// high surrogate, the backslash behind it, `\u` and digits of the second unit.

@@ -2,7 +2,7 @@
 
 ghost use Rattle.std.specs.Prelude.{◌≡◌, ◌≢◌, ℕ, ℤ, ◌+◌, ◌-◌, ◌*◌, ◌%◌, ◌^◌, ◌≤◌, ◌<◌, ◌++◌, length, min, nat_abs, IfSome, IfNone};
 ghost use Rattle.helix_json.specs.Numbers.{IsDigit, AreDigits, IsNumber, IsUnits, digits_value, digits_from, signed};
-ghost use Rattle.helix_json.specs.Pieces.{IsReduced, Unreachable, AreUnits};
+ghost use Rattle.helix_json.specs.Inner.Pieces.{IsReduced, Unreachable, AreUnits};
 
 use crate::number::{split_digits, split_exponent, split_fraction, split_sign};
 use helix_base::Text;
@@ -21,7 +21,7 @@ struct Reduced {
 }
 
 /// The value of digits, or `HUGE` from there on.
-#[tactic(auto, using(crate::proofs::Decimal::digit_steps))]
+#[tactic(auto, using(crate::specs::Inner::DecimalLaws::digit_steps))]
 fn value_up_to_huge(digits: &[u32]) -> u128
     requires { AreDigits digits.now }
     ensures { result ≡ min (digits_value digits.now) (2 ^ 100) }
@@ -92,7 +92,7 @@ fn push_digit(reduced: Reduced, digit: u32) -> Option<Reduced>
 }
 
 /// More digits behind a reduced number, or `None` where no number up to `MOST` is left.
-#[tactic(auto, using(crate::proofs::Decimal::digit_steps))]
+#[tactic(auto, using(crate::specs::Inner::DecimalLaws::digit_steps))]
 fn push_digits(start: Reduced, digits: &[u32]) -> Option<Reduced>
     requires digits { AreDigits digits.now }
     requires bound { start.number ≤ 10 ^ 35 }

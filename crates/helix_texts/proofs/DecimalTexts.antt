@@ -4,7 +4,7 @@ use Rattle.std.proofs.lemmas.Bool.Decides.{nat_tests}
 use Rattle.std.proofs.lemmas.Fmt.{decimal_by_steps_wide}
 use Rattle.std.proofs.Math.Arith.{mod-mul}
 use Rattle.helix_json.specs.Numbers.{AreDigits, IsWhole, digits_from, digits_value}
-use Rattle.helix_json.proofs.Decimal.{digits_push, from-append, pow_more, some_power}
+use Rattle.helix_json.specs.Inner.DecimalLaws.{digits_push, from-append, pow_more, some_power}
 use Rattle.helix_texts.specs.Texts.{last_digits, kept, without_zeros}
 
 -- the digits of a number from 10 on don't begin with 0, and there is one below

@@ -2,9 +2,9 @@
 use Rattle.std.proofs.Common.{◌≡◌, ◌≢◌, ℕ, ◌+◌, ◌*◌, ◌/◌, ◌%◌, ◌^◌, ◌≤◌, ℤ, pos, negsuc, List, [], ◌∷◌, ◌++◌, length, Bool, true, false, inl, inr, decimal, refl, sym, ap, ◌∙◌, subst, arith}
 use Rattle.std.specs.Prelude.{unsigned_abs}
 use Rattle.helix_json.specs.Numbers.{IsDigit, AreDigits, IsWhole, Parts, SpellsNumber, Exponent, no_exponent, power, plus, minus, no_sign, IsExponent, fraction_text, exponent_text, minus_text, digits_from, digits_value, HasUnits, signed, IsUnits}
-use Rattle.helix_json.specs.Pieces.{NoDigit, TakesSign, TakesFraction, TakesExponent, Found, AreUnits}
-use Rattle.helix_json.proofs.Decimal.{from-append, cancel}
-use Rattle.helix_json.proofs.Parts.{parts_found, units_found}
+use Rattle.helix_json.specs.Inner.Pieces.{NoDigit, TakesSign, TakesFraction, TakesExponent, Found, AreUnits}
+use Rattle.helix_json.specs.Inner.DecimalLaws.{from-append, cancel}
+use Rattle.helix_json.specs.Inner.PartsLaws.{parts_found, units_found}
 use Rattle.std.proofs.lemmas.Nat.{pow-add}
 use Rattle.std.proofs.lemmas.List.{append-nil}
 use Rattle.helix_texts.specs.Texts.{last_digits, without_zeros, is_negative, one, number_text}

@@ -3,7 +3,7 @@ use Rattle.std.proofs.Common.{◌≡◌, ℕ, ◌+◌, ◌-◌, ◌*◌, ◌/◌
 use Rattle.std.proofs.Common.{add-one}
 use Rattle.std.proofs.lemmas.List.{take_more}
 use Rattle.helix_json.specs.Numbers.{IsDigit, AreDigits}
-use Rattle.helix_json.proofs.Decimal.{digit_at, pow_more}
+use Rattle.helix_json.specs.Inner.DecimalLaws.{digit_at, pow_more}
 use Rattle.std.proofs.lemmas.Bool.Decides.{nat_tests}
 use Rattle.helix_values.specs.Codes.{is_digit}
 use Rattle.helix_texts.specs.Texts.{last_digits}

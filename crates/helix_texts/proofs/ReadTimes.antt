@@ -4,7 +4,7 @@ use Rattle.std.proofs.Common.{append-nil}
 use Rattle.std.proofs.Math.Nat.{mod-eq_of_lt, mul-le-mul_right}
 use Rattle.std.proofs.lemmas.Nat.{pow-add}
 use Rattle.helix_json.specs.Numbers.{IsDigit, AreDigits, digits_value, fraction_text}
-use Rattle.helix_json.proofs.Decimal.{digit_at, some_power}
+use Rattle.helix_json.specs.Inner.DecimalLaws.{digit_at, some_power}
 use Rattle.helix_ladders.specs.Calendar.{IsDate}
 use Rattle.helix_texts.specs.Texts.{last_digits, clock_text}
 use Rattle.helix_texts.specs.Reading.{IsClock, BeginsWithThree, BeginsWithDate, TakesZulu, IsTimeEnd, CountsTimeEnd, IsTimeBehind, CountsTime}

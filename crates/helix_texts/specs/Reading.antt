@@ -1,4 +1,4 @@
--- What the parts of `moment_of` promise each other. Only the crate's private clauses cite it.
+-- What the parts of `moment_of` promise each other.
 use Rattle.std.specs.Prelude.{◌≡◌, ◌≢◌, ◌⊎◌, ℕ, ◌^◌, ◌<◌, ◌≤◌, Bool, List, [], ◌∷◌, ◌++◌, length}
 use Rattle.helix_json.specs.Numbers.{AreDigits, fraction_text}
 use Rattle.helix_ladders.specs.Calendar.{IsDate}

@@ -1,7 +1,7 @@
 use Rattle.std.proofs.Common.{◌∙◌}
 use Rattle.std.proofs.lemmas.Iterator.Adapters.{YieldsList-from_vec}
 use Rattle.std.proofs.lemmas.Iterator.Consumers.{YieldsList-so_far, YieldsList-turn, YieldsList-end}
-use Rattle.helix_json.specs.Building.{reading_of}
+use Rattle.helix_json.specs.Inner.Building.{reading_of}
 use Rattle.helix_json.proofs.Builder.{allowed, leads_on, arrives, arrived, built}
 use Rattle.helix_json.proofs.build.build.Goals as goal
 

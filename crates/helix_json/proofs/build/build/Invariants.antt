@@ -1,6 +1,6 @@
 use Rattle.std.proofs.Common.{◌≡◌, [], Some}
-use Rattle.helix_json.specs.Machine.{run, value}
-use Rattle.helix_json.specs.Building.{reading_of}
+use Rattle.helix_json.specs.Inner.Machine.{run, value}
+use Rattle.helix_json.specs.Inner.Building.{reading_of}
 use Rattle.helix_json.proofs.build.build.Given as goal
 
 abbrev pub invariant-loop-token : goal.invariant-loop-token

@@ -1,6 +1,6 @@
 use Rattle.std.proofs.Common.{◌≡◌, Some, IfOk, subst}
-use Rattle.helix_json.specs.Machine.{step, after, in_object}
-use Rattle.helix_json.specs.Building.{reading_of}
+use Rattle.helix_json.specs.Inner.Machine.{step, after, in_object}
+use Rattle.helix_json.specs.Inner.Building.{reading_of}
 use Rattle.helix_json.proofs.Builder.{item_allowed, member_allowed, item_taken, member_taken, inside_of}
 use Rattle.helix_json.proofs.build.end_value.Goals as goal
 

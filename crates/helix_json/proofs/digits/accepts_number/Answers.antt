@@ -1,6 +1,6 @@
 use Rattle.std.proofs.Common.{arith, sym, ◌∙◌, ap, subst, IsTrue, ◌↔◌}
 use Rattle.helix_json.specs.Numbers.{IsNumber}
-use Rattle.helix_json.specs.NumberSteps.{number_step}
+use Rattle.helix_json.specs.Inner.NumberSteps.{number_step}
 use Rattle.helix_json.proofs.NumberGrammar.{loop_step, loop_refused, loop_end, true_not_false}
 use Rattle.helix_json.proofs.digits.accepts_number.Goals as goal
 

@@ -1,5 +1,5 @@
 use Rattle.std.proofs.Common.{◌≡◌, length, arith, sym, ◌∙◌, ap}
-use Rattle.helix_json.specs.NumberSteps.{number_step}
+use Rattle.helix_json.specs.Inner.NumberSteps.{number_step}
 use Rattle.helix_json.proofs.Lexemes.{number_on, number_end}
 use Rattle.helix_json.proofs.lexeme.read_number.Goals as goal
 

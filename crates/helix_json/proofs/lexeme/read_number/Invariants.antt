@@ -1,8 +1,8 @@
 use Rattle.std.proofs.Common.{ℕ, ◌<◌, List, take, slice_range}
 use Rattle.helix_json.specs.declared.token.Token.{Token}
-use Rattle.helix_json.specs.Lexer.{in_number}
-use Rattle.helix_json.specs.Machine.{Reading}
-use Rattle.helix_json.specs.Scan.{HasRead}
+use Rattle.helix_json.specs.Inner.Lexer.{in_number}
+use Rattle.helix_json.specs.Inner.Machine.{Reading}
+use Rattle.helix_json.specs.Inner.Scan.{HasRead}
 use Rattle.helix_json.proofs.lexeme.read_number.Given as goal
 
 abbrev pub invariant-loop-i : goal.invariant-loop-i

@@ -1,10 +1,10 @@
 use Rattle.std.proofs.Common.{List, [], take}
 use Rattle.helix_json.specs.declared.token.Token.{Token}
 use Rattle.helix_json.specs.declared.string.StringState.TheVariants as state
-use Rattle.helix_json.specs.StringSteps.{Fine}
-use Rattle.helix_json.specs.Lexer.{in_string}
-use Rattle.helix_json.specs.Machine.{Reading}
-use Rattle.helix_json.specs.Scan.{HasRead}
+use Rattle.helix_json.specs.Inner.StringSteps.{Fine}
+use Rattle.helix_json.specs.Inner.Lexer.{in_string}
+use Rattle.helix_json.specs.Inner.Machine.{Reading}
+use Rattle.helix_json.specs.Inner.Scan.{HasRead}
 use Rattle.helix_json.proofs.lexeme.read_string.Given as goal
 
 abbrev pub invariant-loop-i : goal.invariant-loop-i

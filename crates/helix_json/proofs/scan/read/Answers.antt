@@ -1,5 +1,5 @@
 use Rattle.std.proofs.Common.{◌+◌, true, false, ap, sym, ◌∷◌, ◌++◌, [], ◌∙◌, arith, subst}
-use Rattle.helix_json.specs.Progress.{Allows}
+use Rattle.helix_json.specs.Inner.Progress.{Allows}
 use Rattle.helix_json.proofs.Holding.{holds_blank, mark_holds, mark_leaves}
 use Rattle.helix_json.proofs.Finishing.{holds_same}
 use Rattle.helix_json.proofs.scan.read.Goals as goal

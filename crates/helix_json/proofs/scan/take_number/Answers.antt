@@ -2,8 +2,8 @@ use Rattle.std.proofs.Common.{ap, sym, ◌∷◌, ◌++◌, [], ◌∙◌, arith
 use Rattle.helix_json.specs.declared.need.TokenKind.TheVariants as kind
 use Rattle.helix_json.specs.declared.token.Token.TheVariants as token
 use Rattle.helix_json.specs.declared.digits.NumberState.TheVariants as number
-use Rattle.helix_json.specs.NumberSteps.{number_step}
-use Rattle.helix_json.specs.Progress.{Allows}
+use Rattle.helix_json.specs.Inner.NumberSteps.{number_step}
+use Rattle.helix_json.specs.Inner.Progress.{Allows}
 use Rattle.helix_json.proofs.HoldingWords.{number_none, number_leaves, number_breaks, number_holds}
 use Rattle.helix_json.proofs.Finishing.{holds_same, scalars_slice}
 use Rattle.helix_json.proofs.scan.take_number.Goals as goal

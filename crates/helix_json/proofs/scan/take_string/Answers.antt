@@ -1,8 +1,8 @@
 use Rattle.std.proofs.Common.{◌+◌, arith, subst}
 use Rattle.helix_json.specs.declared.need.TokenKind.TheVariants as kind
 use Rattle.helix_json.specs.declared.lexeme.StringRead.TheVariants as read
-use Rattle.helix_json.specs.Progress.{Allows}
-use Rattle.helix_json.specs.Lexeme.{ReadsString}
+use Rattle.helix_json.specs.Inner.Progress.{Allows}
+use Rattle.helix_json.specs.Inner.Lexeme.{ReadsString}
 use Rattle.helix_json.proofs.Holding.{string_leaves, string_stops, string_holds}
 use Rattle.helix_json.proofs.Finishing.{holds_same}
 use Rattle.helix_json.proofs.scan.take_string.Goals as goal

@@ -1,7 +1,7 @@
 use Rattle.std.proofs.Common.{◌+◌, ap, ◌∷◌, ◌++◌, [], ◌∙◌, length, arith, subst}
 use Rattle.helix_json.specs.declared.need.TokenKind.TheVariants as kind
-use Rattle.helix_json.specs.Progress.{Allows}
-use Rattle.helix_json.specs.Lexeme.{ReadsLetters}
+use Rattle.helix_json.specs.Inner.Progress.{Allows}
+use Rattle.helix_json.specs.Inner.Lexeme.{ReadsLetters}
 use Rattle.helix_json.proofs.HoldingWords.{word_leaves, word_breaks, word_holds}
 use Rattle.helix_json.proofs.Finishing.{holds_same}
 use Rattle.helix_json.proofs.scan.take_word.Goals as goal

@@ -1,5 +1,5 @@
 use Rattle.std.proofs.Common.{arith, ◌≡◌, ◌*◌, ◌+◌, ◌-◌, subst, ℕ}
-use Rattle.helix_json.specs.Pieces.{IsReduced}
+use Rattle.helix_json.specs.Inner.Pieces.{IsReduced}
 use Rattle.helix_json.proofs.Decimal.{reduced_zero, reduced_odd, above_odd}
 use Rattle.helix_json.proofs.units.push_digit.Goals as goal
 

@@ -1,6 +1,6 @@
 use Rattle.std.proofs.Common.{ℕ, ◌+◌, ◌≤◌, ◌^◌, take}
 use Rattle.helix_json.specs.Numbers.{digits_from}
-use Rattle.helix_json.specs.Pieces.{IsReduced}
+use Rattle.helix_json.specs.Inner.Pieces.{IsReduced}
 use Rattle.helix_json.proofs.units.push_digits.Given as goal
 
 abbrev pub invariant-loop-digit : goal.invariant-loop-digit

@@ -1,4 +1,4 @@
--- What the parts of `number_units` promise each other. Only the crate's private clauses cite it.
+-- What the parts of `number_units` promise each other.
 use Rattle.std.specs.Prelude.{◌≡◌, ◌≢◌, ℕ, ◌+◌, ◌*◌, ◌^◌, ◌%◌, ◌≤◌, Bool, true, false, List, [], ◌∷◌, ◌++◌}
 use Rattle.helix_json.specs.Numbers.{IsDigit, AreDigits, Parts, Exponent, raised, lowered, digits_value}
 

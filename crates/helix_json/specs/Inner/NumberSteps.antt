@@ -1,4 +1,4 @@
--- The grammar of numbers, one character after the other. Only the crate's private clauses cite it.
+-- The grammar of numbers, one character after the other.
 use Rattle.std.specs.Prelude.{ℕ, Bool, true, false, ◌==◌, ◌||◌, ◌&&◌, nat_le, if◌then◌else◌, Option, Some, None, List, [], ◌∷◌}
 use Rattle.helix_json.specs.declared.digits.NumberState.{NumberState}
 use Rattle.helix_json.specs.declared.digits.NumberState.TheVariants as state

@@ -1,11 +1,11 @@
--- What has been read of a text and not refused. Only the crate's private clauses cite it.
+-- What has been read of a text and not refused.
 use Rattle.std.specs.Prelude.{◌≡◌, ◌≢◌, ℕ, Bool, true, Some, List, [], ◌++◌}
 use Rattle.std.specs.Option.{is_some}
 use Rattle.helix_json.specs.declared.token.Token.{Token}
 use Rattle.helix_json.specs.declared.token.Token.TheVariants as token
-use Rattle.helix_json.specs.StringSteps.{Fine}
-use Rattle.helix_json.specs.Lexer.{Lex, between, in_string, in_number, in_word, word_token, lex, prepend}
-use Rattle.helix_json.specs.Machine.{Reading, value, step, run}
+use Rattle.helix_json.specs.Inner.StringSteps.{Fine}
+use Rattle.helix_json.specs.Inner.Lexer.{Lex, between, in_string, in_number, in_word, word_token, lex, prepend}
+use Rattle.helix_json.specs.Inner.Machine.{Reading, value, step, run}
 
 -- whether the token that is being read may stand there
 abbrev pub may_go : Reading → Lex → Bool

@@ -1,4 +1,4 @@
--- Which token may come next, whatever the values are. Only the crate's private clauses cite it.
+-- Which token may come next, whatever the values are.
 use Rattle.std.specs.Prelude.{◌≡◌, Option, Some, None, List, [], ◌∷◌, ◌++◌}
 use Rattle.helix_json.specs.declared.token.Token.{Token}
 use Rattle.helix_json.specs.declared.token.Token.TheVariants as token
@@ -10,7 +10,7 @@ use Rattle.helix_json.specs.declared.need.TokenKind.{TokenKind}
 use Rattle.helix_json.specs.declared.need.TokenKind.TheVariants as kind
 use Rattle.helix_json.specs.declared.need.Advance.{Advance}
 use Rattle.helix_json.specs.declared.need.Advance.TheVariants as advance
-use Rattle.helix_json.specs.Machine.{Reading, value, first_item, first_key, key, colon, after, Frame, in_list, in_object}
+use Rattle.helix_json.specs.Inner.Machine.{Reading, value, first_item, first_key, key, colon, after, Frame, in_list, in_object}
 
 abbrev pub kind_of_token : Token → TokenKind
 kind_of_token token.OpenList = kind.OpenList

@@ -1,10 +1,10 @@
--- What the builder has so far, as a reading of tokens. Only the crate's private clauses cite it.
+-- What the builder has so far, as a reading of tokens.
 use Rattle.std.specs.Prelude.{List, [], ◌∷◌, ◌++◌}
 use Rattle.helix_json.specs.declared.build.Frame.{Frame as Kept}
 use Rattle.helix_json.specs.declared.build.Frame.TheVariants as kept
 use Rattle.helix_json.specs.declared.build.Next.{Next}
 use Rattle.helix_json.specs.declared.build.Next.TheVariants as next
-use Rattle.helix_json.specs.Machine.{Frame, in_list, in_object, Reading, value, first_item, first_key, key, colon, after}
+use Rattle.helix_json.specs.Inner.Machine.{Frame, in_list, in_object, Reading, value, first_item, first_key, key, colon, after}
 
 abbrev pub frame_of : Kept → Frame
 frame_of (kept.List items) = in_list items

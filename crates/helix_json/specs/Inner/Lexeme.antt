@@ -1,4 +1,4 @@
--- What reading one token finds. Only the crate's private clauses cite it.
+-- What reading one token finds.
 use Rattle.std.specs.Prelude.{◌≡◌, ◌≢◌, ◌≤◌, ◌<◌, ◌+◌, ℕ, Some, None, List, [], ◌∷◌, ◌++◌, length, take, get_or, slice_range}
 use Rattle.helix_json.specs.declared.token.Token.{Token}
 use Rattle.helix_json.specs.declared.token.Token.TheVariants as token
@@ -7,10 +7,10 @@ use Rattle.helix_json.specs.declared.digits.NumberState.{NumberState}
 use Rattle.helix_json.specs.declared.lexeme.StringRead.{StringRead}
 use Rattle.helix_json.specs.declared.lexeme.StringRead.TheVariants as read
 use Rattle.helix_json.specs.Broken.{LeavesGrammar}
-use Rattle.helix_json.specs.NumberSteps.{kind_of, number_step}
-use Rattle.helix_json.specs.Lexer.{between, in_string, in_number}
-use Rattle.helix_json.specs.Machine.{Reading, step}
-use Rattle.helix_json.specs.Scan.{HasRead}
+use Rattle.helix_json.specs.Inner.NumberSteps.{kind_of, number_step}
+use Rattle.helix_json.specs.Inner.Lexer.{between, in_string, in_number}
+use Rattle.helix_json.specs.Inner.Machine.{Reading, step}
+use Rattle.helix_json.specs.Inner.Scan.{HasRead}
 
 -- what a string whose characters stand from that place on does to a text that is read up to them
 abbrev pub ReadsString : List ℕ → ℕ → StringRead → Type 0

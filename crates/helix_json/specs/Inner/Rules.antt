@@ -1,4 +1,4 @@
--- What the searches behind the scanner promise. Only the crate's private clauses cite it.
+-- What the searches behind the scanner promise.
 use Rattle.std.specs.Prelude.{◌≡◌, ℕ, List, ◌∷◌, ◌++◌, length}
 use Rattle.helix_json.specs.declared.value.Json.{Json}
 use Rattle.helix_json.specs.declared.token.Token.{Token}

@@ -1,4 +1,4 @@
--- The values of tokens, one token after the other. Only the crate's private clauses cite it.
+-- The values of tokens, one token after the other.
 use Rattle.std.specs.Prelude.{ℕ, true, false, Option, Some, None, List, [], ◌∷◌, ◌++◌}
 use Rattle.helix_json.specs.declared.value.Json.{Json}
 use Rattle.helix_json.specs.declared.value.Json as json

@@ -1,4 +1,4 @@
--- The grammar of strings, one character after the other. Only the crate's private clauses cite it.
+-- The grammar of strings, one character after the other.
 use Rattle.std.specs.Prelude.{◌≡◌, ◌≤◌, ◌<◌, ℕ, ◌+◌, ◌*◌, ◌-◌, ◌==◌, ◌||◌, ◌&&◌, nat_le, nat_lt, if◌then◌else◌, Option, Some, None}
 use Rattle.std.specs.Char.{digit_value}
 use Rattle.helix_json.specs.Text.{IsHigh, escaped}

@@ -1,4 +1,4 @@
--- The tokens of a text, one character after the other. Only the crate's private clauses cite it.
+-- The tokens of a text, one character after the other.
 use Rattle.std.specs.Prelude.{ℕ, Bool, true, false, ◌==◌, if◌then◌else◌, Option, Some, None, List, [], ◌∷◌, ◌++◌, codes}
 use Rattle.helix_json.specs.declared.token.Token.{Token}
 use Rattle.helix_json.specs.declared.token.Token.TheVariants as token
@@ -15,8 +15,8 @@ use Rattle.helix_json.specs.declared.string.StringMove.TheVariants as move
 use Rattle.helix_json.specs.declared.digits.NumberState.{NumberState}
 use Rattle.helix_json.specs.declared.digits.NumberState.TheVariants as number
 use Rattle.helix_json.specs.Text.{is_blank}
-use Rattle.helix_json.specs.NumberSteps.{kind_of, number_step, number_ends}
-use Rattle.helix_json.specs.StringSteps.{string_step}
+use Rattle.helix_json.specs.Inner.NumberSteps.{kind_of, number_step, number_ends}
+use Rattle.helix_json.specs.Inner.StringSteps.{string_step}
 
 abbrev pub class : ℕ → Class
 class c = if is_blank c then class_is.Blank

@@ -1,4 +1,4 @@
--- Where the innermost list or object begins, token by token. Only the crate's private clauses cite it.
+-- Where the innermost list or object begins, token by token.
 use Rattle.std.specs.Prelude.{◌≡◌, ℕ, ◌+◌, List, [], ◌∷◌, ◌++◌}
 use Rattle.helix_json.specs.declared.token.Token.{Token}
 use Rattle.helix_json.specs.declared.token.Token.TheVariants as token

@@ -1,4 +1,4 @@
--- What has been read of a text between two tokens. Only the crate's private clauses cite it.
+-- What has been read of a text between two tokens.
 use Rattle.std.specs.Prelude.{◌≡◌, ◌≤◌, ◌<◌, ℕ, Bool, true, false, Some, None, List, [], ◌∷◌, ◌++◌, length, take, drop, get_or}
 use Rattle.helix_json.specs.declared.token.Token.{Token}
 use Rattle.helix_json.specs.declared.need.Need.TheVariants as need
@@ -9,9 +9,9 @@ use Rattle.helix_json.specs.declared.progress.Step.{Step}
 use Rattle.helix_json.specs.declared.progress.Step.TheVariants as step_is
 use Rattle.helix_json.specs.Text.{is_blank}
 use Rattle.helix_json.specs.Broken.{IsViable, LeavesGrammar}
-use Rattle.helix_json.specs.Lexer.{between, lex, prepend}
-use Rattle.helix_json.specs.Machine.{Reading, value, step, run}
-use Rattle.helix_json.specs.Need.{kind_of_token, need_of, containers}
+use Rattle.helix_json.specs.Inner.Lexer.{between, lex, prepend}
+use Rattle.helix_json.specs.Inner.Machine.{Reading, value, step, run}
+use Rattle.helix_json.specs.Inner.Need.{kind_of_token, need_of, containers}
 
 -- the nest of a reading
 abbrev pub Tracks : Nest → Reading → Type 0

@@ -1,4 +1,4 @@
--- What reading a text as tokens finds. Only the crate's private clauses cite it.
+-- What reading a text as tokens finds.
 use Rattle.std.specs.Prelude.{◌≡◌, ℕ, List, ◌∷◌, ◌++◌, length, slice_index}
 use Rattle.helix_json.specs.declared.token.Token.{Token}
 use Rattle.helix_json.specs.declared.value.Json.{Json}

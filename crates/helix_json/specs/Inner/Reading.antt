@@ -1,4 +1,4 @@
--- What is read of a text of characters. Only the crate's private clauses cite it.
+-- What is read of a text of characters.
 use Rattle.std.specs.Prelude.{◌≡◌, ℕ, List}
 use Rattle.helix_json.specs.declared.fault.JsonFault.{JsonFault}
 use Rattle.helix_json.specs.declared.fault.JsonFault.TheVariants as fault
