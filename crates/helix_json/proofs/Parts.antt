@@ -1,6 +1,6 @@
 -- The units of a number whose parts are found.
 use Rattle.std.proofs.Common.{◌≡◌, ◌≢◌, ℕ, ◌+◌, ◌*◌, ◌^◌, ◌≤◌, ◌↔◌, inl, inr, zero, suc, List, [], ◌∷◌, ◌++◌, length, Bool, true, false, ℤ, nat_abs, refl, sym, ◌∙◌, ap, subst, arith}
-use Rattle.helix_json.specs.Numbers.{IsDigit, AreDigits, Parts, Exponent, no_exponent, power, plus, minus, no_sign, IsWhole, IsExponent, SpellsNumber, fraction_text, exponent_text, minus_text, raised, lowered, digits_value, HasUnits, signed, IsUnits, IsNumber}
+use Rattle.helix_json.specs.Numbers.{IsDigit, AreDigits, Parts, Exponent, no_exponent, power, plus, minus, no_sign, IsWhole, IsExponent, SpellsNumber, fraction_text, exponent_text, minus_text, power_up, power_down, digits_value, HasUnits, signed, IsUnits, IsNumber}
 use Rattle.helix_json.specs.Inner.Pieces.{NoDigit, TakesSign, TakesFraction, TakesExponent, ExponentIs, Found, AreUnits}
 use Rattle.helix_json.specs.Inner.PartsLaws.{parts_found, units_found}
 
@@ -12,12 +12,14 @@ signed_size false n = refl
 pub size_within : (r s : ℤ) (n most : ℕ) → r ≡ s → nat_abs s ≡ n → n ≤ most → nat_abs r ≤ most
 size_within r s n most e f small = omega (arith, ap nat_abs e, f)
 
-module _ (text codes unsigned whole behind fraction last digits : List ℕ) (negative lowers : Bool) (same : codes ≡ text)
-    (sign : TakesSign codes negative unsigned) (is : unsigned ≡ whole ++ behind) (all : AreDigits whole) (stops : NoDigit behind)
-    (point : TakesFraction behind fraction last) (exponent : TakesExponent last lowers digits) where
+module _ (text codes unsigned whole later fraction last digits : List ℕ) (negative lowers : Bool) (same : codes ≡ text)
+    (sign : TakesSign codes negative unsigned) (is : unsigned ≡ whole ++ later) (all : AreDigits whole)
+    (stops : NoDigit later)
+    (point : TakesFraction later fraction last) (exponent : TakesExponent last lowers digits) where
   pub found_in : (parts : Parts) → SpellsNumber text parts → Found parts negative whole fraction lowers digits
-  found_in parts spells = parts_found text unsigned whole behind fraction last digits negative lowers
-      (let P : List ℕ → Type 0 = λ t. TakesSign t negative unsigned in subst P same sign) is all stops point exponent parts spells
+  found_in parts spells = parts_found text unsigned whole later fraction last digits negative lowers
+      (let P : List ℕ → Type 0 = λ t. TakesSign t negative unsigned in
+      subst P same sign) is all stops point exponent parts spells
 
   pub fraction_digits : (parts : Parts) → SpellsNumber text parts → AreDigits fraction
   fraction_digits parts spells = subst AreDigits (sym (found_in parts spells).fraction_is) spells.are.fraction
@@ -25,12 +27,20 @@ module _ (text codes unsigned whole behind fraction last digits : List ℕ) (neg
   pub exponent_digits : (parts : Parts) → SpellsNumber text parts → AreDigits digits
   exponent_digits parts spells = (found_in parts spells).exponent_is.are_digits
 
-  pub units_in : (units : ℤ) (n : ℕ) → AreUnits (digits_value (whole ++ fraction)) (length fraction) lowers (digits_value digits) n
+  pub units_in : (units : ℤ) (n : ℕ)
+      → AreUnits (digits_value (whole ++ fraction)) (length fraction) lowers (digits_value digits) n
       → units ≡ signed negative n → IsNumber text → IsUnits text units
-  units_in units n are e (parts, spells) = let found = found_in parts spells in
-      (parts, spells, n, (units_found parts negative whole fraction digits lowers n found).1 are, e ∙ ap (λ b. signed b n) found.negative_is)
+  units_in units n are e (parts, spells) = let found = found_in parts spells in (
+    parts,
+    spells,
+    n,
+    (units_found parts negative whole fraction digits lowers n found).1 are,
+    e ∙ ap (λ b. signed b n) found.negative_is,
+  )
 
-  pub no_units_in : (most : ℕ) → ((n : ℕ) → n ≤ most → ¬ (AreUnits (digits_value (whole ++ fraction)) (length fraction) lowers (digits_value digits) n))
+  pub no_units_in : (most : ℕ) → ((n : ℕ) → n ≤ most
+      → ¬ (AreUnits (digits_value (whole ++ fraction)) (length fraction) lowers (digits_value digits) n))
       → (units : ℤ) → nat_abs units ≤ most → ¬ (IsUnits text units)
   no_units_in most none units small (parts, spells, n, has, e) = let found = found_in parts spells in
-      none n (omega (arith, signed_size parts.negative n, ap nat_abs e)) ((units_found parts negative whole fraction digits lowers n found).0 has)
+      none n (omega (arith, signed_size parts.negative n, ap nat_abs e))
+      ((units_found parts negative whole fraction digits lowers n found).0 has)

@@ -1,9 +1,9 @@
 -- What the public clauses rest on.
+pub mod Syntax
 pub mod Tokens
 pub mod Numbers
 pub mod Text
 pub mod Broken
 pub mod Values
-
 -- What only private clauses cite, and lemmas for the crates above.
 pub mod Inner

@@ -2,7 +2,7 @@
 
 ghost use Rattle.std.specs.Prelude.{◌≡◌, ◌≤◌, ℕ, List};
 ghost use Rattle.helix_json.specs.declared.value.Json.{Json as Value};
-ghost use Rattle.helix_json.specs.Broken.{BeginsTooDeep, Nowhere, RepeatsKey, SpellsJson};
+ghost use Rattle.helix_json.specs.Broken.{BeginsTooDeep, Nowhere, RepeatsKey, SpellsJson, max_depth};
 ghost use Rattle.helix_json.specs.Values.{HasNoRepeatedKey, HasNumbers, nesting};
 
 /// The numbers of a value that bytes spell are JSON numbers, as `number_units` needs them.
@@ -18,5 +18,5 @@ pub fn one_value()
 /// A value whose tokens break neither of the rules on nesting and keys keeps them, as a value.
 pub fn rules_of_a_value()
     ensures keys { (v : Value) → Nowhere RepeatsKey v → HasNoRepeatedKey v }
-    ensures depth { (v : Value) → Nowhere BeginsTooDeep v → nesting v ≤ 64 }
+    ensures depth { (v : Value) → Nowhere BeginsTooDeep v → nesting v ≤ max_depth }
 {}

@@ -1,5 +1,5 @@
 //! JSON text, read exactly: the one value that a text spells, or the first broken rule and its
-//! place.
+//! offset.
 #![tactic(auto)]
 
 mod build;

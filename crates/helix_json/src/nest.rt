@@ -34,8 +34,8 @@ impl Nest {
         self.containers.last().copied()
     }
 
-    /// Whether a token of that kind may stand here. If so, what comes next is what may come
-    /// behind it.
+    /// Whether a token of that kind may come here. If so, what comes next is what may come
+    /// after it.
     pub fn allow(&mut self, kind: TokenKind) -> Result<bool, Memory>
         ensures { IfOk result (λ allowed. Allows self.old self.new kind allowed) }
     {

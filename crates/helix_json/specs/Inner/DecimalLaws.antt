@@ -11,7 +11,8 @@ pub digits_push : (cs : List ℕ) (c : ℕ) → AreDigits cs → IsDigit c → A
 digits_push [] c all here = (here, tt)
 digits_push (d ∷ cs) c all here = (all.0, digits_push cs c all.1 here)
 
-pub digits_more : (cs : List ℕ) (i : ℕ) → i < length cs → AreDigits (take i cs) → IsDigit (get_or cs i 0) → AreDigits (take (i + 1) cs)
+pub digits_more : (cs : List ℕ) (i : ℕ) → i < length cs → AreDigits (take i cs) → IsDigit (get_or cs i 0)
+    → AreDigits (take (i + 1) cs)
 digits_more cs i within all here = rw (take_more cs i 0 within) (digits_push (take i cs) (get_or cs i 0) all here)
 
 pub digit_at : (cs : List ℕ) (i : ℕ) → i < length cs → AreDigits cs → IsDigit (get_or cs i 0)
@@ -23,7 +24,8 @@ pub from-append : (n : ℕ) (xs ys : List ℕ) → digits_from n (xs ++ ys) ≡ 
 from-append n [] ys = refl
 from-append n (x ∷ xs) ys = from-append (n * 10 + (x - 48)) xs ys
 
-pub from-more : (n : ℕ) (cs : List ℕ) (i : ℕ) → i < length cs → digits_from n (take (i + 1) cs) ≡ digits_from n (take i cs) * 10 + (get_or cs i 0 - 48)
+pub from-more : (n : ℕ) (cs : List ℕ) (i : ℕ) → i < length cs
+    → digits_from n (take (i + 1) cs) ≡ digits_from n (take i cs) * 10 + (get_or cs i 0 - 48)
 from-more n cs i within = rw (take_more cs i 0 within) (from-append n (take i cs) (get_or cs i 0 ∷ []))
 
 -- for a loop over digits
@@ -42,4 +44,5 @@ pub shift : (n k : ℕ) → n * 10 ^ (k + 1) ≡ (n * 10 ^ k) * 10
 shift n k = rw (pow_more k) (sym (mul_assoc n (10 ^ k) 10))
 
 pub cancel : (a b k : ℕ) → a * 10 ^ k ≡ b * 10 ^ k → a ≡ b
-cancel a b k e = let p : 0 < 10 ^ k = omega (arith, some_power k) in sym (mul-div_cancel a p) ∙ (ap (λ n. n / 10 ^ k) e ∙ mul-div_cancel b p)
+cancel a b k e = let p : 0 < 10 ^ k = omega (arith, some_power k) in
+    sym (mul-div_cancel a p) ∙ (ap (λ n. n / 10 ^ k) e ∙ mul-div_cancel b p)

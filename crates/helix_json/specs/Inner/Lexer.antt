@@ -45,7 +45,7 @@ word_token word.Null = token.Null
 word_token word.True = token.True
 word_token word.False = token.False
 
--- behind its first letter
+-- after its first letter
 abbrev pub word_rest : Word → List ℕ
 word_rest word.Null = codes "ull"
 word_rest word.True = codes "rue"

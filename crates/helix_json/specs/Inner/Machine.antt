@@ -47,7 +47,8 @@ step (after x (in_list xs ∷ fs)) token.Comma = Some (value (in_list (xs ++ x �
 step (after x (in_list xs ∷ fs)) token.CloseList = Some (after (view.List (xs ++ x ∷ [])) fs)
 step (after x (in_list xs ∷ fs)) _ = None
 step (after x (in_object ms k ∷ fs)) token.Comma = Some (key (ms ++ record { key = k; value = x } ∷ []) fs)
-step (after x (in_object ms k ∷ fs)) token.CloseObject = Some (after (view.Object (ms ++ record { key = k; value = x } ∷ [])) fs)
+step (after x (in_object ms k ∷ fs)) token.CloseObject =
+    Some (after (view.Object (ms ++ record { key = k; value = x } ∷ [])) fs)
 step (after x (in_object ms k ∷ fs)) _ = None
 
 abbrev pub on_some : Option Reading → (Reading → Option Reading) → Option Reading

@@ -6,7 +6,8 @@ use Rattle.helix_json.specs.declared.digits.NumberCharacter.{NumberCharacter}
 use Rattle.helix_json.specs.declared.digits.NumberCharacter.TheVariants as kind
 
 abbrev pub kind_of : ℕ → NumberCharacter
-kind_of c = if c == 48 then kind.Zero else if nat_le 49 c && nat_le c 57 then kind.Digit else if c == 43 then kind.Plus else if c == 45 then kind.Minus
+kind_of c = if c == 48 then kind.Zero else if nat_le 49 c && nat_le c 57 then kind.Digit else if c == 43 then kind.Plus
+    else if c == 45 then kind.Minus
     else if c == 46 then kind.Point else if c == 69 || c == 101 then kind.Mark else kind.Other
 
 abbrev pub number_step : NumberState → NumberCharacter → Option NumberState
@@ -47,7 +48,7 @@ abbrev pub if_some : Option NumberState → (NumberState → Bool) → Bool
 if_some None f = false
 if_some (Some s) f = f s
 
--- whether the rest of a number stands there
+-- whether the text is the rest of a number
 unfoldable pub accepts : NumberState → List ℕ → Bool
 accepts s [] = number_ends s
 accepts s (c ∷ cs) = if_some (number_step s (kind_of c)) (λ next. accepts next cs)

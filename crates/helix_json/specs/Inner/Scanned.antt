@@ -6,16 +6,18 @@ use Rattle.helix_json.specs.declared.scanned.Scan.{Scan}
 use Rattle.helix_json.specs.declared.scanned.Scan.TheVariants as scan
 use Rattle.helix_json.specs.Tokens.{tokens}
 use Rattle.helix_json.specs.Text.{SpellsText}
-use Rattle.helix_json.specs.Broken.{LeavesGrammar, BeginsAt}
+use Rattle.helix_json.specs.Broken.{BeginsAt, IsJsonText}
+use Rattle.helix_json.specs.Syntax.{IsSyntaxErrorAt}
 
--- these are the tokens of the value that a text spells, each with its place
-pub record AreTokensOf (text : List ℕ) (value : Json) (ts : List Token) (places : List ℕ) : Type 0 where
+-- these are the tokens of the value that a text spells, each with its offset
+pub record AreTokensOf (text : List ℕ) (value : Json) (ts : List Token) (offsets : List ℕ) : Type 0 where
   pub spells : SpellsText text value
   pub are : tokens value ≡ ts
-  pub each : length places ≡ length ts
-  pub begin : (before : List Token) (t : Token) (rest : List Token) → ts ≡ before ++ t ∷ rest → BeginsAt text before t rest (slice_index places (length before))
+  pub each : length offsets ≡ length ts
+  pub begin : (before : List Token) (t : Token) (rest : List Token) → ts ≡ before ++ t ∷ rest
+      → BeginsAt text before t rest (slice_index offsets (length before))
 
--- the text spells a value, and these are its tokens; or there it leaves the grammar
+-- the text spells a value, and these are its tokens; or its syntax error is there
 abbrev pub IsScan : List ℕ → Scan → Type 0
-IsScan text (scan.Tokens scanned) = (value : Json) × AreTokensOf text value scanned.tokens.items scanned.places.items
-IsScan text (scan.Leaves count) = LeavesGrammar text count
+IsScan text (scan.Tokens scanned) = (value : Json) × AreTokensOf text value scanned.tokens.items scanned.offsets.items
+IsScan text (scan.SyntaxError count) = IsSyntaxErrorAt IsJsonText text count

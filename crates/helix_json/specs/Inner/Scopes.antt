@@ -8,7 +8,8 @@ Closes token.CloseList = Unit {0}
 Closes token.CloseObject = Unit {0}
 Closes _ = ⊥
 
--- the token with this number leads from inside of the innermost container, which starts there with the outer ones, to the next one's
+-- the token with this number leads from inside of the innermost container, which starts there with the outer ones, to
+-- the next one's
 abbrev pub Passes : ℕ → Token → List ℕ → ℕ → List ℕ → ℕ → Type 0
 Passes i token.OpenList outer start others next = (others ≡ outer ++ start ∷ []) × (next ≡ i + 1)
 Passes i token.OpenObject outer start others next = (others ≡ outer ++ start ∷ []) × (next ≡ i + 1)

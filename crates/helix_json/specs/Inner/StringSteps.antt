@@ -8,7 +8,8 @@ use Rattle.helix_json.specs.declared.string.StringMove.{StringMove}
 use Rattle.helix_json.specs.declared.string.StringMove.TheVariants as move
 
 abbrev pub plain_step : ℕ → StringMove
-plain_step c = if c == 34 then move.Close else if c == 92 then move.Go state.Backslash else if nat_lt c 32 then move.Refuse else move.Give c
+plain_step c = if c == 34 then move.Close else if c == 92 then move.Go state.Backslash else if nat_lt c 32
+    then move.Refuse else move.Give c
 
 abbrev pub give_or_refuse : Option ℕ → StringMove
 give_or_refuse None = move.Refuse
@@ -17,15 +18,17 @@ give_or_refuse (Some c) = move.Give c
 abbrev pub backslash_step : ℕ → StringMove
 backslash_step c = if c == 117 then move.Go (state.Unit 0 0) else give_or_refuse (escaped c)
 
--- a digit of value h more behind so many digits of this value
+-- a digit of value h more after `digits` digits of this value
 abbrev pub unit_step : ℕ → ℕ → ℕ → StringMove
-unit_step digits value h = if nat_le 16 h then move.Refuse else if digits == 1 && (value == 13 && nat_le 12 h) then move.Refuse
+unit_step digits value h = if nat_le 16 h then move.Refuse else if digits == 1 && (value == 13 && nat_le 12 h)
+    then move.Refuse
     else if nat_lt digits 3 then move.Go (state.Unit (digits + 1) (value * 16 + h))
     else if nat_le 0xD800 (value * 16 + h) && nat_lt (value * 16 + h) 0xDC00 then move.Go (state.High (value * 16 + h))
     else move.Give (value * 16 + h)
 
 abbrev pub low_step : ℕ → ℕ → ℕ → ℕ → StringMove
-low_step high digits value h = if nat_le 16 h then move.Refuse else if (digits == 0 && nat_lt h 13) || (digits == 0 && nat_lt 13 h) then move.Refuse
+low_step high digits value h = if nat_le 16 h then move.Refuse else if (digits == 0 && nat_lt h 13)
+    || (digits == 0 && nat_lt 13 h) then move.Refuse
     else if digits == 1 && nat_lt h 12 then move.Refuse
     else if nat_lt digits 3 then move.Go (state.Low high (digits + 1) (value * 16 + h))
     else move.Give (0x10000 + (high - 0xD800) * 0x400 + (value * 16 + h - 0xDC00))

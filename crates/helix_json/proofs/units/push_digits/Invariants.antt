@@ -7,5 +7,6 @@ abbrev pub invariant-loop-digit : goal.invariant-loop-digit
 invariant-loop-digit l = record {
   bound : l.reduced.number ≤ 10 ^ 35;
   zeros : l.reduced.zeros ≤ l.initial.reduced.zeros + l.digit-index;
-  reduced : (value : ℕ) → IsReduced value l.initial.reduced.number l.initial.reduced.zeros → IsReduced (digits_from value (take l.digit-index l.digits)) l.reduced.number l.reduced.zeros;
+  reduced : (value : ℕ) → IsReduced value l.initial.reduced.number l.initial.reduced.zeros
+      → IsReduced (digits_from value (take l.digit-index l.digits)) l.reduced.number l.reduced.zeros;
 }
