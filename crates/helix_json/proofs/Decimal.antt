@@ -1,11 +1,13 @@
 -- Numbers that end in no zero, and their units.
-use Rattle.std.proofs.Common.{◌≡◌, ◌≢◌, ℕ, ◌+◌, ◌*◌, ◌-◌, ◌^◌, ◌%◌, ◌<◌, ◌≤◌, zero, suc, List, [], ◌∷◌, ◌++◌, length, get_or, take, drop, mul_assoc, add-one, ◌⊎◌, ◌/◌, inl, inr, subst, Bool, true, false, ◌↔◌, refl, sym, ◌∙◌, ap, arith}
-use Rattle.std.proofs.lemmas.List.{take_more, take-append-drop}
+use Rattle.std.proofs.Common.{◌≡◌, ◌≢◌, ℕ, ◌+◌, ◌*◌, ◌-◌, ◌^◌, ◌%◌, ◌<◌, ◌≤◌, zero, suc, List, [], ◌∷◌, length, get_or, take, drop, mul_assoc, add-one, ◌⊎◌, inl, inr, subst, Bool, true, false, ◌↔◌, sym, ◌∙◌, ap, arith}
+use Rattle.std.proofs.lemmas.List.{take-append-drop}
 use Rattle.std.proofs.lemmas.Nat.{pow-add}
-use Rattle.std.proofs.Math.Nat.{pow-suc, mul-div_cancel, mul-le-mul_left}
-use Rattle.helix_json.specs.Numbers.{IsDigit, AreDigits, digits_from}
+use Rattle.std.proofs.Math.Nat.{mul-le-mul_left}
+use Rattle.helix_json.specs.Numbers.{digits_from}
+use Rattle.helix_base.specs.Digits.{AreDigits}
 use Rattle.helix_json.specs.Inner.Pieces.{IsReduced, Unreachable, AreUnits}
 use Rattle.helix_json.specs.Inner.DecimalLaws.{from-append, from-more, some_power, shift, cancel}
+use Rattle.helix_base.specs.Inner.DigitLaws.{digit_bounds}
 
 -- the smaller power goes to the other side
 pub cancel_less : (a b x y : ℕ) → x ≤ y → a * 10 ^ x ≡ b * 10 ^ y → a ≡ b * 10 ^ (y - x)
@@ -61,6 +63,7 @@ pub unreachable_digits : (most value : ℕ) (cs : List ℕ) → AreDigits cs →
     → Unreachable most (digits_from value cs)
 unreachable_digits most value [] all gone = gone
 unreachable_digits most value (c ∷ cs) all gone =
+    let b : (48 ≤ c) × (c ≤ 57) = digit_bounds c all.0 in
     unreachable_digits most (value * 10 + (c - 48)) cs all.1 (unreachable_more most value (c - 48) (omega arith) gone)
 
 pub digits_rest : (cs : List ℕ) (i : ℕ) → AreDigits cs → AreDigits (drop i cs)

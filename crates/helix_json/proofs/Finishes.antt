@@ -1,15 +1,11 @@
 -- Each reading can end in a value.
-use Rattle.std.proofs.Common.{◌≡◌, ◌≢◌, ℕ, true, false, Option, Some, None, List, [], ◌∷◌, ◌++◌, refl, sym, ◌∙◌, ap, append_assoc}
-use Rattle.std.proofs.lemmas.List.{append-nil}
+use Rattle.std.proofs.Common.{◌≡◌, Some, List, [], ◌∷◌, ◌++◌, refl}
 use Rattle.helix_json.specs.declared.value.Json.{Json, Row_of-Json, Row_of-Member}
 use Rattle.helix_json.specs.declared.value.Json as json
 use Rattle.helix_json.specs.declared.value.Json.TheViews as view
-use Rattle.helix_json.specs.declared.value.Member.{Member}
 use Rattle.helix_json.specs.declared.token.Token.{Token}
 use Rattle.helix_json.specs.declared.token.Token.TheVariants as token
-use Rattle.helix_json.specs.Tokens.{tokens, first_item as first_item_tokens, next_item, first_member, next_member}
-use Rattle.helix_json.specs.Inner.Machine.{Frame, in_list, in_object, Reading, value, first_item, first_key, key, colon, after, step, value_step, on_some, run}
-use Rattle.helix_json.proofs.Machine.{item_row, member_row}
+use Rattle.helix_json.specs.Inner.Machine.{Frame, in_list, in_object, Reading, value, first_item, first_key, key, colon, after, run}
 use Rattle.helix_json.proofs.TokensRead.{field}
 
 -- each reading can end in a value

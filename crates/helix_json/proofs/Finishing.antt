@@ -9,7 +9,7 @@ use Rattle.helix_json.specs.declared.need.Container.TheVariants as container
 use Rattle.helix_json.specs.declared.nest.Nest.{Nest}
 use Rattle.helix_json.specs.Tokens.{tokens}
 use Rattle.helix_json.specs.Broken.{IsJsonText}
-use Rattle.helix_json.specs.Syntax.{IsViablePrefix, IsSyntaxErrorAt}
+use Rattle.helix_base.specs.Syntax.{IsViablePrefix, IsSyntaxErrorAt}
 use Rattle.helix_json.specs.Inner.Lexer.{between, lex}
 use Rattle.helix_json.specs.Inner.Machine.{Reading, value, first_item, first_key, key, colon, after, in_list, in_object, run}
 use Rattle.helix_json.specs.Inner.Need.{need_of, opened, containers}

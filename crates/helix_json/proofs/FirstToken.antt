@@ -1,35 +1,23 @@
 -- The token first in a text, and what follows it.
-use Rattle.std.proofs.Common.{◌≡◌, ◌≢◌, ℕ, Bool, true, false, IsTrue, ◌==◌, nat_lt, cond, Option, Some, None, List, [], ◌∷◌, ◌++◌, refl, sym, ◌∙◌, ap, subst, append_assoc}
-use Rattle.std.proofs.lemmas.Bool.{eqb-true}
-use Rattle.std.proofs.lemmas.List.{append-nil}
+use Rattle.std.proofs.Common.{◌≡◌, ℕ, true, IsTrue, Option, Some, None, List, [], ◌∷◌, ◌++◌, refl, sym, ◌∙◌, ap, subst, append_assoc}
 use Rattle.helix_json.specs.declared.token.Token.{Token}
 use Rattle.helix_json.specs.declared.token.Token.TheVariants as token
 use Rattle.helix_json.specs.declared.class.Mark.{Mark}
 use Rattle.helix_json.specs.declared.class.Mark.TheVariants as mark
 use Rattle.helix_json.specs.declared.class.Word.{Word}
 use Rattle.helix_json.specs.declared.class.Word.TheVariants as word
-use Rattle.helix_json.specs.declared.class.Class.{Class}
 use Rattle.helix_json.specs.declared.class.Class.TheVariants as class_is
-use Rattle.helix_json.specs.declared.string.StringState.{StringState}
-use Rattle.helix_json.specs.declared.string.StringState.TheVariants as state
-use Rattle.helix_json.specs.declared.string.StringMove.{StringMove}
-use Rattle.helix_json.specs.declared.string.StringMove.TheVariants as move
 use Rattle.helix_json.specs.declared.digits.NumberState.{NumberState}
 use Rattle.helix_json.specs.declared.digits.NumberState.TheVariants as number
-use Rattle.helix_json.specs.Inner.NumberSteps.{kind_of, number_step, number_ends, if_some, accepts}
-use Rattle.helix_json.specs.Inner.StringSteps.{Fine, string_step}
+use Rattle.helix_json.specs.Inner.NumberSteps.{kind_of, number_step, if_some, accepts}
+use Rattle.helix_json.specs.Inner.StringSteps.{Fine}
 use Rattle.helix_json.specs.Numbers.{IsNumber}
 use Rattle.helix_json.specs.Text.{is_blank, SpellsToken, SpellsChars, Cuts}
-use Rattle.helix_json.specs.Inner.Lexer.{Lex, between, in_string, in_number, in_word, lex, lex_step, lex_end, on_emission, prepend, class, by_class, between_step, mark_token, word_token, word_rest, word_move, string_move, begin_number, number_move, end_number, end_tokens}
+use Rattle.helix_json.specs.Inner.Lexer.{Lex, between, in_string, in_number, in_word, prepend, mark_token, word_token, word_rest}
 use Rattle.helix_json.proofs.NumberGrammar.{tail_from}
-use Rattle.helix_json.proofs.LexingNumbers.{mark_code, with_first}
-use Rattle.std.specs.Char.{digit_value}
-use Rattle.helix_json.specs.Text.{escaped}
-use Rattle.helix_json.specs.Inner.StringSteps.{give_or_refuse}
-use Rattle.helix_json.proofs.StringBack.{Prefix, unit_cases, low_cases}
-use Rattle.helix_json.proofs.StringText.{After, string_after}
-use Rattle.helix_json.proofs.Choices.{choose}
-use Rattle.helix_json.proofs.ClassMeanings.{ClassMeans, class_means}
+use Rattle.helix_json.proofs.LexingNumbers.{mark_code}
+use Rattle.helix_json.proofs.StringBack.{Prefix}
+use Rattle.helix_json.proofs.ClassMeanings.{ClassMeans}
 
 -- the tokens that a text gives, read on from a state
 abbrev pub Goes : Lex → List ℕ → List Token → Type 0

@@ -12,7 +12,7 @@ use Rattle.helix_json.specs.declared.lexeme.StringRead.TheVariants as read
 use Rattle.helix_json.specs.declared.nest.Nest.{Nest}
 use Rattle.helix_json.specs.Text.{is_blank}
 use Rattle.helix_json.specs.Broken.{IsJsonText}
-use Rattle.helix_json.specs.Syntax.{IsSyntaxErrorAt}
+use Rattle.helix_base.specs.Syntax.{IsSyntaxErrorAt}
 use Rattle.helix_json.specs.Inner.Lexer.{Lex, between, in_string, class, by_class, mark_token}
 use Rattle.helix_json.specs.Inner.Machine.{Reading, step, run, on_some}
 use Rattle.helix_json.specs.Inner.Need.{kind_of_token}

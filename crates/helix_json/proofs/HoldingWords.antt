@@ -12,7 +12,7 @@ use Rattle.helix_json.specs.declared.digits.NumberState.{NumberState}
 use Rattle.helix_json.specs.declared.digits.NumberState.TheVariants as number
 use Rattle.helix_json.specs.declared.nest.Nest.{Nest}
 use Rattle.helix_json.specs.Broken.{IsJsonText}
-use Rattle.helix_json.specs.Syntax.{IsSyntaxErrorAt}
+use Rattle.helix_base.specs.Syntax.{IsSyntaxErrorAt}
 use Rattle.helix_json.specs.Inner.NumberSteps.{kind_of, number_step, number_ends}
 use Rattle.helix_json.specs.Inner.Lexer.{between, in_word, in_number, lex, on_emission, prepend, class, by_class, begin_number, word_token, word_rest, word_move}
 use Rattle.helix_json.specs.Inner.Machine.{Reading, step}

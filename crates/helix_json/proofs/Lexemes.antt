@@ -8,7 +8,7 @@ use Rattle.helix_json.specs.declared.string.StringState.TheVariants as state
 use Rattle.helix_json.specs.declared.string.StringMove.TheVariants as move
 use Rattle.helix_json.specs.declared.digits.NumberState.{NumberState}
 use Rattle.helix_json.specs.Broken.{IsJsonText}
-use Rattle.helix_json.specs.Syntax.{IsSyntaxErrorAt}
+use Rattle.helix_base.specs.Syntax.{IsSyntaxErrorAt}
 use Rattle.helix_json.specs.Inner.NumberSteps.{kind_of, number_step, number_ends}
 use Rattle.helix_json.specs.Inner.StringSteps.{Fine, string_step}
 use Rattle.helix_json.specs.Inner.Lexer.{Lex, between, in_string, in_number, lex_step, string_move, number_move, end_number, end_tokens, between_step}

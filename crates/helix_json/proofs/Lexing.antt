@@ -1,6 +1,5 @@
 -- A text of tokens that lead to a value is cut in one way.
-use Rattle.std.proofs.Common.{◌≡◌, ℕ, ◌≤◌, ◌<◌, ◌⊎◌, inl, inr, true, false, IsTrue, ◌==◌, ◌||◌, Option, Some, None, List, [], ◌∷◌, ◌++◌, refl, sym, ◌∙◌, ap, subst, arith, append_assoc}
-use Rattle.std.proofs.lemmas.Bool.{eqb-true, cond-true, cond-false, false_from_ne_true, ne_eqb, or_cases}
+use Rattle.std.proofs.Common.{◌≡◌, ℕ, true, Option, Some, None, List, [], ◌∷◌, ◌++◌, refl, sym, ◌∙◌, ap, subst, append_assoc}
 use Rattle.std.proofs.lemmas.List.{append-nil}
 use Rattle.helix_json.specs.declared.value.Json.{Json}
 use Rattle.helix_json.specs.declared.value.Json as json
@@ -8,19 +7,17 @@ use Rattle.helix_json.specs.declared.token.Token.{Token}
 use Rattle.helix_json.specs.declared.token.Token.TheVariants as token
 use Rattle.helix_json.specs.declared.class.Mark.{Mark}
 use Rattle.helix_json.specs.declared.class.Mark.TheVariants as mark
-use Rattle.helix_json.specs.declared.class.Class.TheVariants as class_is
 use Rattle.helix_json.specs.declared.string.StringState.TheVariants as state
 use Rattle.helix_json.specs.declared.digits.NumberState.{NumberState}
 use Rattle.helix_json.specs.declared.digits.NumberState.TheVariants as number
-use Rattle.helix_json.specs.declared.digits.NumberCharacter.{NumberCharacter}
 use Rattle.helix_json.specs.declared.digits.NumberCharacter.TheVariants as kind
 use Rattle.helix_json.specs.Inner.NumberSteps.{kind_of, number_step, if_some, accepts}
-use Rattle.helix_json.specs.Text.{is_blank, AreBlanks, SpellsToken, Cuts, SpellsText}
+use Rattle.helix_json.specs.Text.{AreBlanks, SpellsToken, Cuts, SpellsText}
 use Rattle.helix_json.specs.Tokens.{tokens}
-use Rattle.helix_json.specs.Inner.Lexer.{Lex, between, in_string, in_number, lex, on_emission, prepend, class, by_class, between_step, mark_token, begin_number, number_move, end_number, end_tokens, with_token, Emission}
+use Rattle.helix_json.specs.Inner.Lexer.{between, in_string, lex, on_emission, prepend, by_class, mark_token, begin_number}
 use Rattle.helix_json.specs.Inner.Machine.{Reading, value, first_item, first_key, key, colon, after, Frame, in_list, in_object, run, step, on_some}
 use Rattle.helix_json.proofs.Machine.{run_tokens, tokens_same}
-use Rattle.helix_json.proofs.NumberGrammar.{Means, means}
+use Rattle.helix_json.proofs.NumberGrammar.{means}
 use Rattle.helix_json.proofs.NumberReading.{tail_to}
 use Rattle.helix_json.proofs.Strings.{prepend_nil, chars_read}
 use Rattle.helix_json.proofs.LexingNumbers.{mark_code, blank_cases, number_class, blanks_skip, EndsNumber, number_read}

@@ -6,9 +6,8 @@ use Rattle.helix_json.specs.declared.value.Json as json
 use Rattle.helix_json.specs.declared.value.Json.TheViews as view
 use Rattle.helix_json.specs.declared.value.Member.{Member}
 use Rattle.helix_json.specs.declared.token.Token.{Token}
-use Rattle.helix_json.specs.declared.token.Token.TheVariants as token
 use Rattle.helix_json.specs.Tokens.{tokens, first_item as first_item_tokens, next_item, first_member, next_member}
-use Rattle.helix_json.specs.Inner.Machine.{Frame, in_list, in_object, Reading, value, first_item, first_key, key, colon, after, step, value_step, on_some, run}
+use Rattle.helix_json.specs.Inner.Machine.{Frame, in_list, in_object, Reading, value, first_item, first_key, after, step, on_some, run}
 
 -- rows as lists
 abbrev pub items : {n : _} → Row_of-Json n → List Json
@@ -29,11 +28,11 @@ MemberRow = (s : _)
     × Row_of-Member (mathlib.Core.Former.arity
     (Rattle.sqlite_items.specs.formers.items.Items.the_former (mathlib.Core.Former.this {0})) s)
 
-pub item_row : Json → ItemRow
+unfoldable pub item_row : Json → ItemRow
 item_row (json.List' s row) = (s, row)
 item_row _ = ([], json.end_of-Json)
 
-pub member_row : Json → MemberRow
+unfoldable pub member_row : Json → MemberRow
 member_row (json.Object' s row) = (s, row)
 member_row _ = ([], json.end_of-Member)
 

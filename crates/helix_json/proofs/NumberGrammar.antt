@@ -1,14 +1,15 @@
 -- Numbers read one character after the other are the numbers of the grammar.
-use Rattle.std.proofs.Common.{◌≡◌, ◌≢◌, ℕ, ◌+◌, ◌≤◌, ◌<◌, ◌⊎◌, ◌↔◌, inl, inr, List, [], ◌∷◌, ◌++◌, Bool, true, false, Some, None, IsTrue, ◌==◌, nat_le, ◌&&◌, ◌||◌, cond, length, drop, get_or, refl, sym, ◌∙◌, ap, subst, arith}
-use Rattle.std.proofs.lemmas.List.{at_drop_more, at_drop_all}
+use Rattle.std.proofs.Common.{◌≡◌, ◌≢◌, ℕ, ◌≤◌, ◌⊎◌, inl, inr, List, [], ◌∷◌, ◌++◌, true, false, IsTrue, ◌==◌, nat_le, ◌&&◌, ◌||◌, refl, ap, arith}
 use Rattle.helix_json.specs.declared.digits.NumberState.{NumberState}
 use Rattle.helix_json.specs.declared.digits.NumberState.TheVariants as state
 use Rattle.helix_json.specs.declared.digits.NumberCharacter.{NumberCharacter}
 use Rattle.helix_json.specs.declared.digits.NumberCharacter.TheVariants as kind
-use Rattle.helix_json.specs.Numbers.{IsDigit, AreDigits, Exponent, no_exponent, power, Sign, plus, minus, no_sign, IsWhole, IsExponent, fraction_text, exponent_text, sign_text, minus_text, IsNumber}
+use Rattle.helix_json.specs.Numbers.{Exponent, no_exponent, power, Sign, plus, minus, no_sign, IsWhole, IsExponent, fraction_text, exponent_text, sign_text, IsNumber}
+use Rattle.helix_base.specs.Digits.{is_digit, AreDigits}
 use Rattle.helix_json.specs.Inner.NumberSteps.{kind_of, number_step, number_ends, if_some, accepts}
 use Rattle.helix_json.proofs.Choices.{choose}
-use Rattle.std.proofs.lemmas.Bool.{and_parts, or_cases, eqb-true, eq-eqb, leb-true, leb-false}
+use Rattle.std.proofs.lemmas.Bool.{and_parts, or_cases, eqb-true, leb-true}
+use Rattle.helix_base.specs.Inner.DigitLaws.{digit_within}
 
 -- what a kind says of a character
 abbrev pub Means : NumberCharacter → ℕ → Type 0
@@ -69,11 +70,11 @@ ends state.Sign e = cc
 pub true_not_false : true ≢ false
 true_not_false e = cc
 
-digit_from : (c : ℕ) → (49 ≤ c) × (c ≤ 57) → IsDigit c
-digit_from c h = (omega arith, h.1)
+digit_from : (c : ℕ) → (49 ≤ c) × (c ≤ 57) → IsTrue (is_digit c)
+digit_from c h = digit_within c (omega (arith, h.0)) h.1
 
-zero_digit : (c : ℕ) → c ≡ 48 → IsDigit c
-zero_digit c e = (omega arith, omega arith)
+zero_digit : (c : ℕ) → c ≡ 48 → IsTrue (is_digit c)
+zero_digit c e = digit_within c (omega arith) (omega arith)
 
 -- one more first character
 number_from : (text : List ℕ) → Tail state.Minus text → IsNumber text
@@ -96,7 +97,7 @@ minus_digit : (c : ℕ) (cs : List ℕ) → (49 ≤ c) × (c ≤ 57) → Tail st
 minus_digit c cs m (whole, fraction, exponent, is, w, f, e) =
     (c ∷ whole, fraction, exponent, ap (λ t. c ∷ t) is, (digit_from c m, w, λ z. absurd (omega arith)), f, e)
 
-whole_digit : (c : ℕ) (cs : List ℕ) → IsDigit c → Tail state.Whole cs → Tail state.Whole (c ∷ cs)
+whole_digit : (c : ℕ) (cs : List ℕ) → IsTrue (is_digit c) → Tail state.Whole cs → Tail state.Whole (c ∷ cs)
 whole_digit c cs m (whole, fraction, exponent, is, w, f, e) =
     (c ∷ whole, fraction, exponent, ap (λ t. c ∷ t) is, (m, w), f, e)
 
@@ -110,11 +111,11 @@ zero_point c cs m (d ∷ ds, last, is, some, f, e) = (d ∷ ds, last, cc, f, e)
 zero_mark : (c : ℕ) (cs : List ℕ) → (c ≡ 69) ⊎ (c ≡ 101) → Tail state.Mark cs → Tail state.Zero (c ∷ cs)
 zero_mark c cs m (sign, digits, is, some, d) = ([], power c sign digits, ap (λ t. c ∷ t) is, tt, (m, some, d))
 
-point_digit : (c : ℕ) (cs : List ℕ) → IsDigit c → Tail state.Fraction cs → Tail state.Point (c ∷ cs)
+point_digit : (c : ℕ) (cs : List ℕ) → IsTrue (is_digit c) → Tail state.Fraction cs → Tail state.Point (c ∷ cs)
 point_digit c cs m (fraction, exponent, is, f, e) =
     (c ∷ fraction, exponent, ap (λ t. c ∷ t) is, some_cons c fraction, (m, f), e)
 
-fraction_digit : (c : ℕ) (cs : List ℕ) → IsDigit c → Tail state.Fraction cs → Tail state.Fraction (c ∷ cs)
+fraction_digit : (c : ℕ) (cs : List ℕ) → IsTrue (is_digit c) → Tail state.Fraction cs → Tail state.Fraction (c ∷ cs)
 fraction_digit c cs m (fraction, exponent, is, f, e) = (c ∷ fraction, exponent, ap (λ t. c ∷ t) is, (m, f), e)
 
 fraction_mark : (c : ℕ) (cs : List ℕ) → (c ≡ 69) ⊎ (c ≡ 101) → Tail state.Mark cs → Tail state.Fraction (c ∷ cs)
@@ -126,7 +127,7 @@ mark_plus c cs m (some, d) = (plus, cs, ap (λ k. k ∷ cs) m, some, d)
 mark_minus : (c : ℕ) (cs : List ℕ) → c ≡ 45 → Tail state.Sign cs → Tail state.Mark (c ∷ cs)
 mark_minus c cs m (some, d) = (minus, cs, ap (λ k. k ∷ cs) m, some, d)
 
-mark_digit : (c : ℕ) (cs : List ℕ) → IsDigit c → AreDigits cs → Tail state.Mark (c ∷ cs)
+mark_digit : (c : ℕ) (cs : List ℕ) → IsTrue (is_digit c) → AreDigits cs → Tail state.Mark (c ∷ cs)
 mark_digit c cs m d = (no_sign, c ∷ cs, refl, some_cons c cs, (m, d))
 
 module _ (c : ℕ) (cs : List ℕ) (ih : (n : NumberState) → accepts n cs ≡ true → Tail n cs) where

@@ -1,19 +1,20 @@
 -- Each number of the grammar is read, one character after the other.
-use Rattle.std.proofs.Common.{◌≡◌, ◌≢◌, ℕ, ◌+◌, ◌≤◌, ◌<◌, ◌⊎◌, ◌↔◌, inl, inr, List, [], ◌∷◌, ◌++◌, Bool, true, false, Some, None, IsTrue, ◌==◌, nat_le, ◌&&◌, ◌||◌, cond, length, drop, get_or, refl, sym, ◌∙◌, ap, subst, arith}
+use Rattle.std.proofs.Common.{◌≡◌, ◌≢◌, ℕ, ◌+◌, ◌≤◌, ◌<◌, ◌⊎◌, ◌↔◌, inl, inr, List, [], ◌∷◌, ◌++◌, Bool, true, false, Some, None, IsTrue, ◌==◌, nat_le, ◌&&◌, length, drop, get_or, refl, sym, ◌∙◌, ap, subst, arith}
 use Rattle.std.proofs.lemmas.List.{at_drop_more, at_drop_all}
 use Rattle.helix_json.specs.declared.digits.NumberState.{NumberState}
 use Rattle.helix_json.specs.declared.digits.NumberState.TheVariants as state
-use Rattle.helix_json.specs.declared.digits.NumberCharacter.{NumberCharacter}
 use Rattle.helix_json.specs.declared.digits.NumberCharacter.TheVariants as kind
-use Rattle.helix_json.specs.Numbers.{IsDigit, AreDigits, Exponent, no_exponent, power, Sign, plus, minus, no_sign, IsWhole, IsExponent, fraction_text, exponent_text, sign_text, minus_text, IsNumber}
+use Rattle.helix_json.specs.Numbers.{Exponent, no_exponent, power, Sign, plus, minus, no_sign, IsWhole, IsExponent, fraction_text, exponent_text, sign_text, minus_text, IsNumber}
+use Rattle.helix_base.specs.Digits.{is_digit, AreDigits}
 use Rattle.helix_json.specs.Inner.NumberSteps.{kind_of, number_step, number_ends, if_some, accepts}
 use Rattle.helix_json.proofs.Choices.{choose}
-use Rattle.std.proofs.lemmas.Bool.{and_cases, eqb-true, eq-eqb, leb-true, leb-false}
+use Rattle.std.proofs.lemmas.Bool.{and_cases, eq-eqb, leb-false}
 use Rattle.helix_json.proofs.NumberGrammar.{Means, means, Tail, some_cons, true_not_false, tail_from}
+use Rattle.helix_base.specs.Inner.DigitLaws.{digit_bounds}
 
 -- and each number is read
-kind_digit : (c : ℕ) → IsDigit c → (kind_of c ≡ kind.Zero) ⊎ (kind_of c ≡ kind.Digit)
-kind_digit c d =
+kind_digit : (c : ℕ) → IsTrue (is_digit c) → (kind_of c ≡ kind.Zero) ⊎ (kind_of c ≡ kind.Digit)
+kind_digit c d = let b : (48 ≤ c) × (c ≤ 57) = digit_bounds c d in
     choose (λ k. (k ≡ kind.Zero) ⊎ (k ≡ kind.Digit)) (c == 48) _ _ (λ _. inl refl) (λ z.
     choose (λ k. (k ≡ kind.Zero) ⊎ (k ≡ kind.Digit)) (nat_le 49 c && nat_le c 57) _ _ (λ _. inr refl) (λ e.
     absurd (elim (and_cases _ _ e) [
@@ -27,7 +28,7 @@ kind_mark c (inl e) = ap kind_of e
 kind_mark c (inr e) = ap kind_of e
 
 digit_steps : (s n : NumberState) (c : ℕ) → number_step s kind.Zero ≡ Some n → number_step s kind.Digit ≡ Some n
-    → IsDigit c → number_step s (kind_of c) ≡ Some n
+    → IsTrue (is_digit c) → number_step s (kind_of c) ≡ Some n
 digit_steps s n c z d is = elim (kind_digit c is) [
   | inl e ↦ ap (number_step s) e ∙ z
   | inr e ↦ ap (number_step s) e

@@ -1,7 +1,8 @@
 -- The units of a number whose parts are found.
-use Rattle.std.proofs.Common.{◌≡◌, ◌≢◌, ℕ, ◌+◌, ◌*◌, ◌^◌, ◌≤◌, ◌↔◌, inl, inr, zero, suc, List, [], ◌∷◌, ◌++◌, length, Bool, true, false, ℤ, nat_abs, refl, sym, ◌∙◌, ap, subst, arith}
-use Rattle.helix_json.specs.Numbers.{IsDigit, AreDigits, Parts, Exponent, no_exponent, power, plus, minus, no_sign, IsWhole, IsExponent, SpellsNumber, fraction_text, exponent_text, minus_text, power_up, power_down, digits_value, HasUnits, signed, IsUnits, IsNumber}
-use Rattle.helix_json.specs.Inner.Pieces.{NoDigit, TakesSign, TakesFraction, TakesExponent, ExponentIs, Found, AreUnits}
+use Rattle.std.proofs.Common.{◌≡◌, ℕ, ◌≤◌, zero, suc, List, ◌++◌, length, Bool, true, false, ℤ, nat_abs, refl, sym, ◌∙◌, ap, subst, arith}
+use Rattle.helix_json.specs.Numbers.{Parts, SpellsNumber, digits_value, signed, IsUnits, IsNumber}
+use Rattle.helix_base.specs.Digits.{AreDigits}
+use Rattle.helix_json.specs.Inner.Pieces.{NoDigit, TakesSign, TakesFraction, TakesExponent, Found, AreUnits}
 use Rattle.helix_json.specs.Inner.PartsLaws.{parts_found, units_found}
 
 pub signed_size : (b : Bool) (n : ℕ) → nat_abs (signed b n) ≡ n

@@ -5,7 +5,7 @@ use Rattle.helix_json.specs.declared.token.Token.{Token}
 use Rattle.helix_json.specs.declared.token.Token.TheVariants as token
 use Rattle.helix_json.specs.declared.digits.NumberState.{NumberState}
 use Rattle.helix_json.specs.Broken.{IsJsonText}
-use Rattle.helix_json.specs.Syntax.{IsSyntaxErrorAt}
+use Rattle.helix_base.specs.Syntax.{IsSyntaxErrorAt}
 use Rattle.helix_json.specs.Inner.NumberSteps.{kind_of, number_step, number_ends}
 use Rattle.helix_json.specs.Inner.Lexer.{Lex, between, in_number, lex, prepend, on_emission, between_step, number_move, end_number, end_tokens}
 use Rattle.helix_json.specs.Inner.Machine.{Reading, value, run, step}

@@ -1,13 +1,10 @@
 -- What is read as tokens is cut so.
-use Rattle.std.proofs.Common.{◌≡◌, ◌≢◌, ℕ, Bool, true, false, IsTrue, ◌==◌, nat_lt, cond, Option, Some, None, List, [], ◌∷◌, ◌++◌, refl, sym, ◌∙◌, ap, subst, append_assoc}
+use Rattle.std.proofs.Common.{◌≡◌, ◌≢◌, ℕ, Bool, true, false, ◌==◌, nat_lt, cond, Option, Some, None, List, [], ◌∷◌, ◌++◌, refl, sym, ◌∙◌, ap, subst, append_assoc}
 use Rattle.std.proofs.lemmas.Bool.{eqb-true}
 use Rattle.std.proofs.lemmas.List.{append-nil}
 use Rattle.helix_json.specs.declared.token.Token.{Token}
 use Rattle.helix_json.specs.declared.token.Token.TheVariants as token
-use Rattle.helix_json.specs.declared.class.Mark.{Mark}
-use Rattle.helix_json.specs.declared.class.Mark.TheVariants as mark
 use Rattle.helix_json.specs.declared.class.Word.{Word}
-use Rattle.helix_json.specs.declared.class.Word.TheVariants as word
 use Rattle.helix_json.specs.declared.class.Class.{Class}
 use Rattle.helix_json.specs.declared.class.Class.TheVariants as class_is
 use Rattle.helix_json.specs.declared.string.StringState.{StringState}
@@ -18,11 +15,9 @@ use Rattle.helix_json.specs.declared.digits.NumberState.{NumberState}
 use Rattle.helix_json.specs.declared.digits.NumberState.TheVariants as number
 use Rattle.helix_json.specs.Inner.NumberSteps.{kind_of, number_step, number_ends, if_some, accepts}
 use Rattle.helix_json.specs.Inner.StringSteps.{Fine, string_step}
-use Rattle.helix_json.specs.Numbers.{IsNumber}
-use Rattle.helix_json.specs.Text.{is_blank, SpellsToken, SpellsChars, Cuts}
-use Rattle.helix_json.specs.Inner.Lexer.{Lex, between, in_string, in_number, in_word, lex, lex_step, lex_end, on_emission, prepend, class, by_class, between_step, mark_token, word_token, word_rest, word_move, string_move, begin_number, number_move, end_number, end_tokens}
-use Rattle.helix_json.proofs.NumberGrammar.{tail_from}
-use Rattle.helix_json.proofs.LexingNumbers.{mark_code, with_first}
+use Rattle.helix_json.specs.Text.{SpellsChars, Cuts}
+use Rattle.helix_json.specs.Inner.Lexer.{Lex, between, in_string, in_number, in_word, lex, lex_step, lex_end, on_emission, class, by_class, between_step, mark_token, word_token, word_rest, word_move, string_move, begin_number, number_move, end_number, end_tokens}
+use Rattle.helix_json.proofs.LexingNumbers.{with_first}
 use Rattle.std.specs.Char.{digit_value}
 use Rattle.helix_json.specs.Text.{escaped}
 use Rattle.helix_json.specs.Inner.StringSteps.{give_or_refuse}

@@ -1,17 +1,16 @@
 -- The text that led to a state of a string, with one more character.
-use Rattle.std.proofs.Common.{◌≡◌, ℕ, ◌+◌, ◌*◌, ◌-◌, ◌≤◌, ◌<◌, inl, inr, zero, suc, Bool, true, false, ◌==◌, ◌&&◌, ◌||◌, nat_le, nat_lt, Option, Some, None, List, [], ◌∷◌, ◌++◌, length, refl, sym, ◌∙◌, ap, subst, arith, append_assoc}
-use Rattle.std.proofs.lemmas.Bool.{eqb-true, leb-true, leb-false, ltb-true, ltb-false, eq-eqb, le-leb, lt-ltb, and_parts}
+use Rattle.std.proofs.Common.{◌≡◌, ℕ, ◌+◌, ◌*◌, ◌≤◌, ◌<◌, ◌==◌, nat_lt, Option, Some, None, List, [], ◌∷◌, ◌++◌, refl, sym, ◌∙◌, ap, subst, arith, append_assoc}
+use Rattle.std.proofs.lemmas.Bool.{eqb-true, ltb-false, eq-eqb}
 use Rattle.std.specs.Char.{digit_value}
 use Rattle.helix_json.specs.declared.string.StringState.{StringState}
 use Rattle.helix_json.specs.declared.string.StringState.TheVariants as state
 use Rattle.helix_json.specs.declared.string.StringMove.{StringMove}
 use Rattle.helix_json.specs.declared.string.StringMove.TheVariants as move
-use Rattle.helix_json.specs.Text.{SpellsUnit, IsHigh, IsLow, How, itself, by_letter, by_unit, by_pair, SpellsAs, escaped}
+use Rattle.helix_json.specs.Text.{SpellsUnit, IsHigh, How, itself, by_letter, by_unit, by_pair, SpellsAs, escaped}
 use Rattle.helix_json.specs.Inner.StringSteps.{UnitFine, LowFine, Fine, string_step, plain_step, backslash_step, give_or_refuse, unit_step, low_step}
-use Rattle.helix_json.proofs.Decimal.{le_or_lt}
 use Rattle.helix_json.proofs.NumberGrammar.{true_not_false}
 use Rattle.helix_json.proofs.Choices.{choose}
-use Rattle.helix_json.proofs.StringBack.{Prefix, hex_push, length_push, unit_of, unit_cases, low_cases, unit_fine, few, low_fine, unit_start, low_start, four, no_low, low_last_is}
+use Rattle.helix_json.proofs.StringBack.{Prefix, hex_push, length_push, unit_of, unit_cases, low_cases, unit_fine, low_fine, unit_start, low_start, four, no_low, low_last_is}
 
 -- what a move makes of the text that led to it
 abbrev pub After : StringMove → List ℕ → Type 0

@@ -5,7 +5,7 @@ use Rattle.helix_json.specs.declared.value.Json.{Json}
 use Rattle.helix_json.specs.declared.token.Token.{Token}
 use Rattle.helix_json.specs.Text.{SpellsText}
 use Rattle.helix_json.specs.Broken.{IsJsonText}
-use Rattle.helix_json.specs.Syntax.{IsViablePrefix, IsSyntaxErrorAt}
+use Rattle.helix_base.specs.Syntax.{IsViablePrefix, IsSyntaxErrorAt}
 use Rattle.helix_json.specs.Inner.Lexer.{Lex, between, lex, lex_end}
 use Rattle.helix_json.specs.Inner.Machine.{Reading}
 use Rattle.helix_json.specs.Inner.Scan.{HasRead}

@@ -1,5 +1,5 @@
 -- The tokens that led to a reading: those of a value lead to it and no others do.
-use Rattle.std.proofs.Common.{◌≡◌, ◌≢◌, ℕ, true, false, Option, Some, None, List, [], ◌∷◌, ◌++◌, refl, sym, ◌∙◌, ap, append_assoc}
+use Rattle.std.proofs.Common.{◌≡◌, ℕ, true, false, Option, Some, None, List, [], ◌∷◌, ◌++◌, refl, sym, ◌∙◌, ap, append_assoc}
 use Rattle.std.proofs.lemmas.List.{append-nil}
 use Rattle.helix_json.specs.declared.value.Json.{Json, Row_of-Json, Row_of-Member}
 use Rattle.helix_json.specs.declared.value.Json as json
@@ -7,7 +7,7 @@ use Rattle.helix_json.specs.declared.value.Json.TheViews as view
 use Rattle.helix_json.specs.declared.value.Member.{Member}
 use Rattle.helix_json.specs.declared.token.Token.{Token}
 use Rattle.helix_json.specs.declared.token.Token.TheVariants as token
-use Rattle.helix_json.specs.Tokens.{tokens, first_item as first_item_tokens, next_item, first_member, next_member}
+use Rattle.helix_json.specs.Tokens.{tokens, next_item, next_member}
 use Rattle.helix_json.specs.Inner.Machine.{Frame, in_list, in_object, Reading, value, first_item, first_key, key, colon, after, step, value_step, on_some, run}
 use Rattle.helix_json.proofs.Machine.{item_row, member_row}
 

@@ -6,7 +6,7 @@ use Rattle.helix_json.specs.declared.token.Token.TheVariants as token
 use Rattle.helix_json.specs.Text.{SpellsText}
 use Rattle.helix_json.specs.Tokens.{tokens}
 use Rattle.helix_json.specs.Broken.{IsJsonText}
-use Rattle.helix_json.specs.Syntax.{IsViablePrefix}
+use Rattle.helix_base.specs.Syntax.{IsViablePrefix}
 use Rattle.helix_json.specs.Inner.Lexer.{Lex, between, in_string, in_number, in_word, lex, lex_step, on_emission, prepend, word_token}
 use Rattle.helix_json.specs.Inner.Machine.{Reading, value, after, run, step, on_some}
 use Rattle.helix_json.specs.Inner.Scan.{may_go, FineLex, HasRead}

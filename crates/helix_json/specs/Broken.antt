@@ -7,7 +7,7 @@ use Rattle.helix_json.specs.declared.value.Json.{Json}
 use Rattle.helix_json.specs.declared.token.Token.{Token}
 use Rattle.helix_json.specs.declared.token.Token.TheVariants as token
 use Rattle.helix_json.specs.Tokens.{tokens}
-use Rattle.helix_json.specs.Syntax.{IsSyntaxErrorAt}
+use Rattle.helix_base.specs.Syntax.{IsSyntaxErrorAt}
 use Rattle.helix_json.specs.Text.{Cuts, SpellsToken, SpellsText}
 
 -- the maximum length of a text in bytes, and the greatest nesting of its lists and objects

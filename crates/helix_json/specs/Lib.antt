@@ -1,5 +1,4 @@
 -- What the public clauses rest on.
-pub mod Syntax
 pub mod Tokens
 pub mod Numbers
 pub mod Text

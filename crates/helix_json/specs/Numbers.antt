@@ -1,18 +1,11 @@
 -- Numbers: RFC 8259, section 6.
-use Rattle.std.specs.Prelude.{◌≡◌, ◌≢◌, ◌⊎◌, ℕ, ◌+◌, ◌*◌, ◌-◌, ◌^◌, ◌≤◌, ℤ, pos, neg_ℤ, Bool, true, false, List, [], ◌∷◌, ◌++◌, length}
-
--- a digit, U+0030 to U+0039
-abbrev pub IsDigit : ℕ → Type 0
-IsDigit c = (48 ≤ c) × (c ≤ 57)
-
-abbrev pub AreDigits : List ℕ → Type 0
-AreDigits [] = Unit {0}
-AreDigits (c ∷ cs) = IsDigit c × AreDigits cs
+use Rattle.helix_base.specs.Digits.{is_digit, AreDigits}
+use Rattle.std.specs.Prelude.{IsTrue, ◌≡◌, ◌≢◌, ◌⊎◌, ℕ, ◌+◌, ◌*◌, ◌-◌, ◌^◌, ℤ, pos, neg_ℤ, Bool, true, false, List, [], ◌∷◌, ◌++◌, length}
 
 -- `0`, or a digit from 1 to 9 with further digits
 abbrev pub IsWhole : List ℕ → Type 0
 IsWhole [] = ⊥
-IsWhole (c ∷ cs) = IsDigit c × AreDigits cs × (c ≡ 48 → cs ≡ [])
+IsWhole (c ∷ cs) = IsTrue (is_digit c) × AreDigits cs × (c ≡ 48 → cs ≡ [])
 
 pub data Sign : Type 0 where
   plus : Sign

@@ -1,16 +1,11 @@
 //! Numbers as they are written, and their exact value.
 
 ghost use Rattle.std.specs.Prelude.{◌≡◌, ◌≢◌, ℕ, ℤ, ◌+◌, ◌*◌, ◌^◌, ◌%◌, ◌≤◌, ◌<◌, ◌++◌, ◌⊎◌, Bool, true, false, take, drop, length, nat_abs, min, IfSome, IfNone, IsTrue, ◌↔◌};
-ghost use Rattle.helix_json.specs.Numbers.{IsDigit, AreDigits, IsNumber, IsUnits, digits_value, digits_from, signed};
+ghost use Rattle.helix_json.specs.Numbers.{IsNumber, IsUnits, digits_value, digits_from, signed};
+ghost use Rattle.helix_base.specs.Digits.{AreDigits};
 ghost use Rattle.helix_json.specs.Inner.Pieces.{NoDigit, TakesSign, TakesFraction, TakesExponent, IsReduced, Unreachable};
 
-use helix_base::Text;
-
-fn is_digit(code: u32) -> bool
-    ensures { IsTrue result ↔ IsDigit code }
-{
-    '0' as u32 <= code && code <= '9' as u32
-}
+use helix_base::is_digit;
 
 /// The digits at the beginning, and what follows them.
 pub fn split_digits(codes: &[u32]) -> (&[u32], &[u32])

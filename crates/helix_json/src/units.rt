@@ -1,7 +1,8 @@
 //! The exact value of a number, in units of 10^-15.
 
 ghost use Rattle.std.specs.Prelude.{◌≡◌, ◌≢◌, ℕ, ℤ, ◌+◌, ◌-◌, ◌*◌, ◌%◌, ◌^◌, ◌≤◌, ◌<◌, ◌++◌, length, min, nat_abs, IfSome, IfNone};
-ghost use Rattle.helix_json.specs.Numbers.{IsDigit, AreDigits, IsNumber, IsUnits, digits_value, digits_from, signed};
+ghost use Rattle.helix_json.specs.Numbers.{IsNumber, IsUnits, digits_value, digits_from, signed};
+ghost use Rattle.helix_base.specs.Digits.{AreDigits};
 ghost use Rattle.helix_json.specs.Inner.Pieces.{IsReduced, Unreachable, AreUnits};
 
 use crate::number::{split_digits, split_exponent, split_fraction, split_sign};
@@ -54,7 +55,7 @@ fn scaled(number: u128, power: u128) -> Option<u128>
 
 /// One more digit after a reduced number, or `None` where no number up to `MAX_UNITS` is left.
 fn push_digit(reduced: Reduced, digit: u32) -> Option<Reduced>
-    requires digit { IsDigit digit }
+    requires digit { (48 ≤ digit) × (digit ≤ 57) }
     requires bound { reduced.number ≤ 10 ^ 35 }
     requires room { reduced.zeros + 1 < 2 ^ 128 }
     ensures some { IfSome result (λ next. (next.number ≤ 10 ^ 35) × (next.zeros ≤ reduced.zeros + 1)

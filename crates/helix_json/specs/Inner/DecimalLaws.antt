@@ -1,24 +1,15 @@
 -- Digits, and numbers times powers of ten: lemmas for this crate and for those above that read and write numbers.
-use Rattle.std.proofs.Common.{◌≡◌, ◌≢◌, ℕ, ◌+◌, ◌*◌, ◌-◌, ◌^◌, ◌%◌, ◌<◌, ◌≤◌, zero, suc, List, [], ◌∷◌, ◌++◌, length, get_or, take, drop, mul_assoc, add-one, ◌⊎◌, ◌/◌, inl, inr, subst, Bool, true, false, ◌↔◌, refl, sym, ◌∙◌, ap, arith}
-use Rattle.std.proofs.lemmas.List.{take_more, take-append-drop}
+use Rattle.std.proofs.Common.{◌≡◌, ℕ, IsTrue, ◌+◌, ◌*◌, ◌-◌, ◌^◌, ◌<◌, ◌≤◌, zero, suc, List, [], ◌∷◌, ◌++◌, length, get_or, take, mul_assoc, ◌/◌, refl, sym, ◌∙◌, ap, arith}
+use Rattle.std.proofs.lemmas.List.{take_more}
 use Rattle.std.proofs.lemmas.Nat.{pow-add}
-use Rattle.std.proofs.Math.Nat.{pow-suc, mul-div_cancel, mul-le-mul_left}
-use Rattle.helix_json.specs.Numbers.{IsDigit, AreDigits, digits_from}
-use Rattle.helix_json.specs.Inner.Pieces.{IsReduced, Unreachable, AreUnits}
+use Rattle.std.proofs.Math.Nat.{pow-suc, mul-div_cancel}
+use Rattle.helix_json.specs.Numbers.{digits_from}
+use Rattle.helix_base.specs.Digits.{is_digit, AreDigits}
+use Rattle.helix_base.specs.Inner.DigitLaws.{digits_push, bounds_at}
 
--- one digit more
-pub digits_push : (cs : List ℕ) (c : ℕ) → AreDigits cs → IsDigit c → AreDigits (cs ++ c ∷ [])
-digits_push [] c all here = (here, tt)
-digits_push (d ∷ cs) c all here = (all.0, digits_push cs c all.1 here)
-
-pub digits_more : (cs : List ℕ) (i : ℕ) → i < length cs → AreDigits (take i cs) → IsDigit (get_or cs i 0)
+pub digits_more : (cs : List ℕ) (i : ℕ) → i < length cs → AreDigits (take i cs) → IsTrue (is_digit (get_or cs i 0))
     → AreDigits (take (i + 1) cs)
 digits_more cs i within all here = rw (take_more cs i 0 within) (digits_push (take i cs) (get_or cs i 0) all here)
-
-pub digit_at : (cs : List ℕ) (i : ℕ) → i < length cs → AreDigits cs → IsDigit (get_or cs i 0)
-digit_at [] i within all = absurd (omega arith)
-digit_at (c ∷ cs) zero within all = all.0
-digit_at (c ∷ cs) (suc i) within all = digit_at cs i (omega arith) all.1
 
 pub from-append : (n : ℕ) (xs ys : List ℕ) → digits_from n (xs ++ ys) ≡ digits_from (digits_from n xs) ys
 from-append n [] ys = refl
@@ -29,7 +20,7 @@ pub from-more : (n : ℕ) (cs : List ℕ) (i : ℕ) → i < length cs
 from-more n cs i within = rw (take_more cs i 0 within) (from-append n (take i cs) (get_or cs i 0 ∷ []))
 
 -- for a loop over digits
-pub ruleset digit_steps = (digit_at, from-more)
+pub ruleset digit_steps = (bounds_at, from-more)
 
 -- powers of ten
 pub pow_more : (k : ℕ) → 10 ^ (k + 1) ≡ 10 ^ k * 10

@@ -7,7 +7,7 @@ use Rattle.helix_json.specs.declared.digits.NumberState.{NumberState}
 use Rattle.helix_json.specs.declared.lexeme.StringRead.{StringRead}
 use Rattle.helix_json.specs.declared.lexeme.StringRead.TheVariants as read
 use Rattle.helix_json.specs.Broken.{IsJsonText}
-use Rattle.helix_json.specs.Syntax.{IsSyntaxErrorAt}
+use Rattle.helix_base.specs.Syntax.{IsSyntaxErrorAt}
 use Rattle.helix_json.specs.Inner.NumberSteps.{kind_of, number_step}
 use Rattle.helix_json.specs.Inner.Lexer.{between, in_string, in_number}
 use Rattle.helix_json.specs.Inner.Machine.{Reading, step}

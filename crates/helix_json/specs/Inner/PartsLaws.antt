@@ -1,7 +1,9 @@
 -- The parts of a number are found one after the other: lemmas for this crate and for those above that read numbers.
-use Rattle.std.proofs.Common.{◌≡◌, ◌≢◌, ℕ, ◌+◌, ◌*◌, ◌^◌, ◌≤◌, ◌↔◌, inl, inr, zero, suc, List, [], ◌∷◌, ◌++◌, length, Bool, true, false, ℤ, nat_abs, refl, sym, ◌∙◌, ap, subst, arith}
-use Rattle.helix_json.specs.Numbers.{IsDigit, AreDigits, Parts, Exponent, no_exponent, power, plus, minus, no_sign, IsWhole, IsExponent, SpellsNumber, fraction_text, exponent_text, minus_text, power_up, power_down, digits_value, HasUnits, signed, IsUnits, IsNumber}
+use Rattle.std.proofs.Common.{◌≡◌, ◌≢◌, ℕ, ◌+◌, ◌*◌, ◌^◌, ◌≤◌, ◌↔◌, inl, inr, List, [], ◌∷◌, ◌++◌, length, Bool, true, false, refl, sym, ◌∙◌, ap, subst, arith}
+use Rattle.helix_json.specs.Numbers.{Parts, Exponent, no_exponent, power, plus, minus, no_sign, IsWhole, IsExponent, SpellsNumber, fraction_text, exponent_text, minus_text, power_up, power_down, digits_value, HasUnits}
+use Rattle.helix_base.specs.Digits.{AreDigits}
 use Rattle.helix_json.specs.Inner.Pieces.{NoDigit, TakesSign, TakesFraction, TakesExponent, ExponentIs, Found, AreUnits}
+use Rattle.helix_base.specs.Inner.DigitLaws.{digit_bounds}
 
 -- digits up to the first other character are one list
 pub digits_unique : (a b c d : List ℕ) → AreDigits a → NoDigit b → AreDigits c → NoDigit d → a ++ b ≡ c ++ d
@@ -21,11 +23,12 @@ whole_digits (c ∷ cs) h = (h.0, h.1)
 
 exponent_no_digit : (e : Exponent) → IsExponent e → NoDigit (exponent_text e)
 exponent_no_digit no_exponent h = tt
-exponent_no_digit (power mark sign digits) h = λ d. elim h.0 [ inl e ↦ omega arith | inr e ↦ omega arith ]
+exponent_no_digit (power mark sign digits) h = λ d.
+    let b : (48 ≤ mark) × (mark ≤ 57) = digit_bounds mark d in elim h.0 [ inl e ↦ omega arith | inr e ↦ omega arith ]
 
 tail_no_digit : (fraction : List ℕ) (e : Exponent) → IsExponent e → NoDigit (fraction_text fraction ++ exponent_text e)
 tail_no_digit [] e h = exponent_no_digit e h
-tail_no_digit (c ∷ cs) e h = λ d. omega arith
+tail_no_digit (c ∷ cs) e h = λ d. let b : (48 ≤ 46) × (46 ≤ 57) = digit_bounds 46 d in omega arith
 
 no_point : (e : Exponent) → IsExponent e → (more : List ℕ) → exponent_text e ≢ 46 ∷ more
 no_point no_exponent h more is = cc
@@ -67,9 +70,9 @@ exponent_found (power mark minus ds) true digits h takes =
 exponent_found (power mark minus ds) false digits h takes = absurd (takes.0 refl)
 exponent_found (power mark no_sign []) lowers digits h takes = absurd (h.1 refl)
 exponent_found (power mark no_sign (d ∷ ds)) true digits h takes =
-    absurd (let e : d ≡ 45 = takes.0 in let k : IsDigit d = h.2.0 in omega arith)
+    absurd (let e : d ≡ 45 = takes.0 in let k : (48 ≤ d) × (d ≤ 57) = digit_bounds d h.2.0 in omega arith)
 exponent_found (power mark no_sign (d ∷ ds)) false digits h takes =
-    let k : IsDigit d = h.2.0 in
+    let k : (48 ≤ d) × (d ≤ 57) = digit_bounds d h.2.0 in
     let e : digits ≡ d ∷ ds = takes.1.1 (λ f. omega arith) in record {
       are_digits = subst AreDigits (sym e) h.2;
       when_raised = λ _. (ap digits_value (sym e), refl);
@@ -82,7 +85,7 @@ sign_found : (text unsigned : List ℕ) (negative is_minus : Bool) (whole tail :
 sign_found text unsigned negative is_minus [] tail h is takes = absurd h
 sign_found text unsigned true true (c ∷ whole) tail h is takes = (refl, (let e : text ≡ 45 ∷ unsigned = takes in cc))
 sign_found text unsigned true false (c ∷ whole) tail h is takes =
-    let e : text ≡ 45 ∷ unsigned = takes in let f : c ≡ 45 = cc in absurd (let k : IsDigit c = h.0 in omega arith)
+    let e : text ≡ 45 ∷ unsigned = takes in let f : c ≡ 45 = cc in absurd (let k : (48 ≤ c) × (c ≤ 57) = digit_bounds c h.0 in omega arith)
 sign_found text unsigned false true (c ∷ whole) tail h is takes = absurd (takes.1 (c ∷ whole ++ tail) is)
 sign_found text unsigned false false (c ∷ whole) tail h is takes = (refl, sym takes.0 ∙ is)
 

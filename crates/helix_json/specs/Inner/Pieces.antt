@@ -1,11 +1,12 @@
 -- What the parts of `number_units` promise each other.
-use Rattle.std.specs.Prelude.{◌≡◌, ◌≢◌, ℕ, ◌+◌, ◌*◌, ◌^◌, ◌%◌, ◌≤◌, Bool, true, false, List, [], ◌∷◌, ◌++◌}
-use Rattle.helix_json.specs.Numbers.{IsDigit, AreDigits, Parts, Exponent, power_up, power_down, digits_value}
+use Rattle.std.specs.Prelude.{IsTrue, ◌≡◌, ◌≢◌, ℕ, ◌+◌, ◌*◌, ◌^◌, ◌%◌, ◌≤◌, Bool, true, false, List, [], ◌∷◌, ◌++◌}
+use Rattle.helix_json.specs.Numbers.{Parts, Exponent, power_up, power_down, digits_value}
+use Rattle.helix_base.specs.Digits.{is_digit, AreDigits}
 
 -- the list begins with no digit
 abbrev pub NoDigit : List ℕ → Type 0
 NoDigit [] = Unit {0}
-NoDigit (c ∷ cs) = ¬ (IsDigit c)
+NoDigit (c ∷ cs) = ¬ (IsTrue (is_digit c))
 
 -- a minus is taken from the beginning, if one is there
 abbrev pub TakesSign : List ℕ → Bool → List ℕ → Type 0

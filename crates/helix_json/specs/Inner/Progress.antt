@@ -9,7 +9,7 @@ use Rattle.helix_json.specs.declared.progress.Step.{Step}
 use Rattle.helix_json.specs.declared.progress.Step.TheVariants as step_is
 use Rattle.helix_json.specs.Text.{is_blank}
 use Rattle.helix_json.specs.Broken.{IsJsonText}
-use Rattle.helix_json.specs.Syntax.{IsViablePrefix, IsSyntaxErrorAt}
+use Rattle.helix_base.specs.Syntax.{IsViablePrefix, IsSyntaxErrorAt}
 use Rattle.helix_json.specs.Inner.Lexer.{between, lex, prepend}
 use Rattle.helix_json.specs.Inner.Machine.{Reading, value, step, run}
 use Rattle.helix_json.specs.Inner.Need.{kind_of_token, need_of, containers}

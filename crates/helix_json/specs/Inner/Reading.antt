@@ -5,7 +5,7 @@ use Rattle.helix_json.specs.declared.fault.JsonFault.TheVariants as fault
 use Rattle.helix_json.specs.declared.value.Json.{Json}
 use Rattle.helix_json.specs.Text.{SpellsText}
 use Rattle.helix_json.specs.Broken.{BeginsTooDeep, RepeatsKey, FirstIn, Nowhere, byte_offset, IsJsonText}
-use Rattle.helix_json.specs.Syntax.{IsSyntaxErrorAt}
+use Rattle.helix_base.specs.Syntax.{IsSyntaxErrorAt}
 
 -- the value that the text spells, and which breaks no rule
 pub record IsSound (text : List ℕ) (value : Json) : Type 0 where

@@ -7,7 +7,7 @@ use Rattle.helix_json.specs.declared.scanned.Scan.TheVariants as scan
 use Rattle.helix_json.specs.Tokens.{tokens}
 use Rattle.helix_json.specs.Text.{SpellsText}
 use Rattle.helix_json.specs.Broken.{BeginsAt, IsJsonText}
-use Rattle.helix_json.specs.Syntax.{IsSyntaxErrorAt}
+use Rattle.helix_base.specs.Syntax.{IsSyntaxErrorAt}
 
 -- these are the tokens of the value that a text spells, each with its offset
 pub record AreTokensOf (text : List ℕ) (value : Json) (ts : List Token) (offsets : List ℕ) : Type 0 where

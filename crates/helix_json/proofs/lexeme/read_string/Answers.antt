@@ -1,6 +1,6 @@
 use Rattle.std.proofs.Common.{◌≡◌, length, arith, subst, ◌∙◌}
 use Rattle.helix_json.specs.Broken.{IsJsonText}
-use Rattle.helix_json.specs.Syntax.{IsSyntaxErrorAt}
+use Rattle.helix_base.specs.Syntax.{IsSyntaxErrorAt}
 use Rattle.helix_base.specs.Inner.ScalarLaws.{scalar_at}
 use Rattle.helix_json.proofs.StringSafe.{give_scalar}
 use Rattle.helix_json.proofs.Lexemes.{string_closes, string_refuses, string_stops, string_went, string_gave}
