@@ -1,54 +1,20 @@
--- Digits, and numbers times powers of ten.
-use Rattle.std.proofs.Common.{◌≡◌, ◌≢◌, ℕ, ◌+◌, ◌*◌, ◌-◌, ◌^◌, ◌%◌, ◌<◌, ◌≤◌, zero, suc, List, [], ◌∷◌, ◌++◌, length, get_or, take, drop, mul_assoc, add-one, ◌⊎◌, ◌/◌, inl, inr, subst, Bool, true, false, ◌↔◌, refl, sym, ◌∙◌, ap, arith}
-use Rattle.std.proofs.lemmas.List.{take_more, take-append-drop}
+-- Numbers that end in no zero, and their units.
+use Rattle.std.proofs.Common.{◌≡◌, ◌≢◌, ℕ, ◌+◌, ◌*◌, ◌-◌, ◌^◌, ◌%◌, ◌<◌, ◌≤◌, zero, suc, List, [], ◌∷◌, length, get_or, take, drop, mul_assoc, add-one, ◌⊎◌, inl, inr, subst, Bool, true, false, ◌↔◌, sym, ◌∙◌, ap, arith}
+use Rattle.std.proofs.lemmas.List.{take-append-drop}
 use Rattle.std.proofs.lemmas.Nat.{pow-add}
-use Rattle.std.proofs.Math.Nat.{pow-suc, mul-div_cancel, mul-le-mul_left}
-use Rattle.helix_json.specs.Numbers.{IsDigit, AreDigits, digits_from}
-use Rattle.helix_json.specs.Pieces.{IsReduced, Unreachable, AreUnits}
-
--- one digit more
-pub digits_push : (cs : List ℕ) (c : ℕ) → AreDigits cs → IsDigit c → AreDigits (cs ++ c ∷ [])
-digits_push [] c all here = (here, tt)
-digits_push (d ∷ cs) c all here = (all.0, digits_push cs c all.1 here)
-
-pub digits_more : (cs : List ℕ) (i : ℕ) → i < length cs → AreDigits (take i cs) → IsDigit (get_or cs i 0) → AreDigits (take (i + 1) cs)
-digits_more cs i within all here = rw (take_more cs i 0 within) (digits_push (take i cs) (get_or cs i 0) all here)
-
-pub digit_at : (cs : List ℕ) (i : ℕ) → i < length cs → AreDigits cs → IsDigit (get_or cs i 0)
-digit_at [] i within all = absurd (omega arith)
-digit_at (c ∷ cs) zero within all = all.0
-digit_at (c ∷ cs) (suc i) within all = digit_at cs i (omega arith) all.1
-
-pub from-append : (n : ℕ) (xs ys : List ℕ) → digits_from n (xs ++ ys) ≡ digits_from (digits_from n xs) ys
-from-append n [] ys = refl
-from-append n (x ∷ xs) ys = from-append (n * 10 + (x - 48)) xs ys
-
-pub from-more : (n : ℕ) (cs : List ℕ) (i : ℕ) → i < length cs → digits_from n (take (i + 1) cs) ≡ digits_from n (take i cs) * 10 + (get_or cs i 0 - 48)
-from-more n cs i within = rw (take_more cs i 0 within) (from-append n (take i cs) (get_or cs i 0 ∷ []))
-
--- for a loop over digits
-pub ruleset digit_steps = (digit_at, from-more)
-
--- powers of ten
-pub pow_more : (k : ℕ) → 10 ^ (k + 1) ≡ 10 ^ k * 10
-pow_more k = pow-add 10 k 1
-
-pub some_power : (k : ℕ) → 1 ≤ 10 ^ k
-some_power zero = omega arith
-some_power (suc k) = rw (pow-suc 10 k) (omega (arith, some_power k))
-
--- n times 10^k, as k falls by one
-pub shift : (n k : ℕ) → n * 10 ^ (k + 1) ≡ (n * 10 ^ k) * 10
-shift n k = rw (pow_more k) (sym (mul_assoc n (10 ^ k) 10))
-
-pub cancel : (a b k : ℕ) → a * 10 ^ k ≡ b * 10 ^ k → a ≡ b
-cancel a b k e = let p : 0 < 10 ^ k = omega (arith, some_power k) in sym (mul-div_cancel a p) ∙ (ap (λ n. n / 10 ^ k) e ∙ mul-div_cancel b p)
+use Rattle.std.proofs.Math.Nat.{mul-le-mul_left}
+use Rattle.helix_json.specs.Numbers.{digits_from}
+use Rattle.helix_base.specs.Digits.{AreDigits}
+use Rattle.helix_json.specs.Inner.Pieces.{IsReduced, Unreachable, AreUnits}
+use Rattle.helix_json.specs.Inner.DecimalLaws.{from-append, from-more, some_power, shift, cancel}
+use Rattle.helix_base.specs.Inner.DigitLaws.{digit_bounds}
 
 -- the smaller power goes to the other side
 pub cancel_less : (a b x y : ℕ) → x ≤ y → a * 10 ^ x ≡ b * 10 ^ y → a ≡ b * 10 ^ (y - x)
 cancel_less a b x y le e =
     let split : y ≡ (y - x) + x = omega arith in
-    cancel a (b * 10 ^ (y - x)) x (e ∙ (ap (λ n. b * 10 ^ n) split ∙ (ap (λ n. b * n) (pow-add 10 (y - x) x) ∙ sym (mul_assoc b (10 ^ (y - x)) (10 ^ x)))))
+    cancel a (b * 10 ^ (y - x)) x (e ∙ (ap (λ n. b * 10 ^ n) split
+    ∙ (ap (λ n. b * n) (pow-add 10 (y - x) x) ∙ sym (mul_assoc b (10 ^ (y - x)) (10 ^ x)))))
 
 pub power_rises : (j k : ℕ) → j ≤ k → 10 ^ j ≤ 10 ^ k
 power_rises j k le = let split : k ≡ j + (k - j) = omega arith in
@@ -65,11 +31,16 @@ le_or_lt (suc a) (suc b) = elim (le_or_lt a b) [ inl le ↦ inl (omega arith) | 
 
 -- a positive number times 10^36 and more is above the range
 pub too_great : (n k : ℕ) → 0 < n → n * 10 ^ k ≤ 10 ^ 35 → k ≤ 35
-too_great n k some below = elim (le_or_lt k 35) [ inl le ↦ le | inr gt ↦ absurd (omega (arith, product_rises n 36 k (omega arith))) ]
+too_great n k some below = elim (le_or_lt k 35) [
+  | inl le ↦ le
+  | inr gt ↦ absurd (omega (arith, product_rises n 36 k (omega arith)))
+]
 
 -- a step of a product by tens
-pub above_more : (most product n done power : ℕ) → product ≡ n * 10 ^ done → done + 1 ≤ power → most < product * 10 → most < n * 10 ^ power
-above_more most product n done power is le above = omega (arith, shift n done, product_rises n (done + 1) power le, ap (λ m. m * 10) is)
+pub above_more : (most product n done power : ℕ) → product ≡ n * 10 ^ done → done + 1 ≤ power → most < product * 10
+    → most < n * 10 ^ power
+above_more most product n done power is le above =
+    omega (arith, shift n done, product_rises n (done + 1) power le, ap (λ m. m * 10) is)
 
 pub product_more : (product n done : ℕ) → product ≡ n * 10 ^ done → product * 10 ≡ n * 10 ^ (done + 1)
 product_more product n done is = ap (λ m. m * 10) is ∙ sym (shift n done)
@@ -78,16 +49,21 @@ product_more product n done is = ap (λ m. m * 10) is ∙ sym (shift n done)
 pub unreachable_odd : (most value : ℕ) → most < value → value % 10 ≢ 0 → Unreachable most value
 unreachable_odd most value above odd n zero le e = omega (arith, e)
 unreachable_odd most value above odd n (suc k) le e =
-    let f : value ≡ (n * 10 ^ k) * 10 = e ∙ (ap (λ j. n * 10 ^ j) (sym (add-one k)) ∙ shift n k) in odd (omega (arith, f))
+    let f : value ≡ (n * 10 ^ k) * 10 = e ∙ (ap (λ j. n * 10 ^ j) (sym (add-one k)) ∙ shift n k) in
+    odd (omega (arith, f))
 
-pub unreachable_more : (most value digit : ℕ) → digit ≤ 9 → Unreachable most value → Unreachable most (value * 10 + digit)
+pub unreachable_more : (most value digit : ℕ) → digit ≤ 9 → Unreachable most value
+    → Unreachable most (value * 10 + digit)
 unreachable_more most value digit small gone n zero le e = gone value 0 (omega (arith, e)) (omega arith)
 unreachable_more most value digit small gone n (suc k) le e =
-    let f : value * 10 + digit ≡ (n * 10 ^ k) * 10 = e ∙ (ap (λ j. n * 10 ^ j) (sym (add-one k)) ∙ shift n k) in gone n k le (omega (arith, f))
+    let f : value * 10 + digit ≡ (n * 10 ^ k) * 10 = e ∙ (ap (λ j. n * 10 ^ j) (sym (add-one k)) ∙ shift n k) in
+    gone n k le (omega (arith, f))
 
-pub unreachable_digits : (most value : ℕ) (cs : List ℕ) → AreDigits cs → Unreachable most value → Unreachable most (digits_from value cs)
+pub unreachable_digits : (most value : ℕ) (cs : List ℕ) → AreDigits cs → Unreachable most value
+    → Unreachable most (digits_from value cs)
 unreachable_digits most value [] all gone = gone
 unreachable_digits most value (c ∷ cs) all gone =
+    let b : (48 ≤ c) × (c ≤ 57) = digit_bounds c all.0 in
     unreachable_digits most (value * 10 + (c - 48)) cs all.1 (unreachable_more most value (c - 48) (omega arith) gone)
 
 pub digits_rest : (cs : List ℕ) (i : ℕ) → AreDigits cs → AreDigits (drop i cs)
@@ -97,25 +73,30 @@ digits_rest (c ∷ cs) (suc i) all = digits_rest cs i all.1
 
 -- what is gone at one digit stays gone
 pub unreachable_from : (most value : ℕ) (cs : List ℕ) (i : ℕ) → i < length cs → AreDigits cs
-    → Unreachable most (digits_from value (take i cs) * 10 + (get_or cs i 0 - 48)) → Unreachable most (digits_from value cs)
+    → Unreachable most (digits_from value (take i cs) * 10 + (get_or cs i 0 - 48))
+    → Unreachable most (digits_from value cs)
 unreachable_from most value cs i within all gone =
-    let here : Unreachable most (digits_from value (take (i + 1) cs)) = subst (Unreachable most) (sym (from-more value cs i within)) gone in
+    let here : Unreachable most (digits_from value (take (i + 1) cs)) = subst (Unreachable most)
+    (sym (from-more value cs i within)) gone in
     let e : digits_from (digits_from value (take (i + 1) cs)) (drop (i + 1) cs) ≡ digits_from value cs =
-    sym (from-append value (take (i + 1) cs) (drop (i + 1) cs)) ∙ ap (digits_from value) (take-append-drop (i + 1) cs) in
+    sym (from-append value (take (i + 1) cs) (drop (i + 1) cs))
+    ∙ ap (digits_from value) (take-append-drop (i + 1) cs) in
     subst (Unreachable most) e (unreachable_digits most _ (drop (i + 1) cs) (digits_rest cs (i + 1) all) here)
 
--- one digit more behind a reduced number
+-- one digit more after a reduced number
 pub reduced_zero : (value n zeros : ℕ) → IsReduced value n zeros → IsReduced (value * 10 + 0) n (zeros + 1)
 reduced_zero value n zeros r = record { is = omega (arith, r.is, shift n zeros); no_zero = r.no_zero }
 
-pub reduced_odd : (value n zeros front digit : ℕ) → IsReduced value n zeros → front ≡ n * 10 ^ (zeros + 1) → 0 < digit → digit ≤ 9
-    → IsReduced (value * 10 + digit) (front + digit) 0
-reduced_odd value n zeros front digit r is some small = record {
+pub reduced_odd : (value n zeros shifted digit : ℕ) → IsReduced value n zeros → shifted ≡ n * 10 ^ (zeros + 1)
+    → 0 < digit → digit ≤ 9
+    → IsReduced (value * 10 + digit) (shifted + digit) 0
+reduced_odd value n zeros shifted digit r is some small = record {
   is = omega (arith, r.is, is, shift n zeros);
-  no_zero = λ _ e. let f : front ≡ (n * 10 ^ zeros) * 10 = is ∙ shift n zeros in omega (arith, f, e);
+  no_zero = λ _ e. let f : shifted ≡ (n * 10 ^ zeros) * 10 = is ∙ shift n zeros in omega (arith, f, e);
 }
 
-pub above_odd : (most value n zeros digit : ℕ) → IsReduced value n zeros → most < n * 10 ^ (zeros + 1) + digit → 0 < digit → digit ≤ 9
+pub above_odd : (most value n zeros digit : ℕ) → IsReduced value n zeros → most < n * 10 ^ (zeros + 1) + digit
+    → 0 < digit → digit ≤ 9
     → Unreachable most (value * 10 + digit)
 above_odd most value n zeros digit r above some small =
     unreachable_odd most (value * 10 + digit) (omega (arith, r.is, shift n zeros)) (λ e. omega (arith, e))
@@ -134,7 +115,8 @@ placed_at number up down n le e =
     ap (λ j. number * 10 ^ j) split ∙ (ap (λ m. number * m) (pow-add 10 (up - down) down)
     ∙ (sym (mul_assoc number (10 ^ (up - down)) (10 ^ down)) ∙ ap (λ m. m * 10 ^ down) (sym e)))
 
-pub placed_above : (most number up down n : ℕ) → down ≤ up → most < number * 10 ^ (up - down) → n ≤ most → number * 10 ^ up ≢ n * 10 ^ down
+pub placed_above : (most number up down n : ℕ) → down ≤ up → most < number * 10 ^ (up - down) → n ≤ most
+    → number * 10 ^ up ≢ n * 10 ^ down
 placed_above most number up down n le above small e =
     let f : n ≡ number * 10 ^ (up - down) = cancel_less n number down up le (sym e) in omega (arith, f)
 
@@ -143,9 +125,12 @@ pub raise : (value number zeros k : ℕ) → IsReduced value number zeros → va
 raise value number zeros k r = ap (λ v. v * 10 ^ k) r.is
     ∙ (mul_assoc number (10 ^ zeros) (10 ^ k) ∙ ap (λ m. number * m) (sym (pow-add 10 zeros k)))
 
-pub units_zero : (value number zeros places exponent : ℕ) (lowers : Bool) → IsReduced value number zeros → number ≡ 0 → AreUnits value places lowers exponent 0
-units_zero value number zeros places exponent true r e = raise value number zeros 15 r ∙ (ap (λ m. m * 10 ^ (zeros + 15)) e ∙ omega arith)
-units_zero value number zeros places exponent false r e = raise value number zeros (15 + exponent) r ∙ (ap (λ m. m * 10 ^ (zeros + (15 + exponent))) e ∙ omega arith)
+pub units_zero : (value number zeros places exponent : ℕ) (lowers : Bool) → IsReduced value number zeros → number ≡ 0
+    → AreUnits value places lowers exponent 0
+units_zero value number zeros places exponent true r e =
+    raise value number zeros 15 r ∙ (ap (λ m. m * 10 ^ (zeros + 15)) e ∙ omega arith)
+units_zero value number zeros places exponent false r e =
+    raise value number zeros (15 + exponent) r ∙ (ap (λ m. m * 10 ^ (zeros + (15 + exponent))) e ∙ omega arith)
 
 unreachable_units : (most value up down n : ℕ) → Unreachable most value → n ≤ most → value * 10 ^ up ≢ n * 10 ^ down
 unreachable_units most value up down n gone small e = elim (le_or_lt up down) [
@@ -155,23 +140,30 @@ unreachable_units most value up down n gone small e = elim (le_or_lt up down) [
       gone value 0 (omega (arith, f, m)) (omega arith))
 ]
 
-pub units_none : (most value places exponent n : ℕ) (lowers : Bool) → Unreachable most value → n ≤ most → ¬ (AreUnits value places lowers exponent n)
-units_none most value places exponent n true gone small e = unreachable_units most value 15 (places + exponent) n gone small e
-units_none most value places exponent n false gone small e = unreachable_units most value (15 + exponent) places n gone small e
+pub units_none : (most value places exponent n : ℕ) (lowers : Bool) → Unreachable most value → n ≤ most
+    → ¬ (AreUnits value places lowers exponent n)
+units_none most value places exponent n true gone small e =
+    unreachable_units most value 15 (places + exponent) n gone small e
+units_none most value places exponent n false gone small e =
+    unreachable_units most value (15 + exponent) places n gone small e
 
 -- an exponent beyond every number of digits
 pub units_huge : (value number zeros places exponent n : ℕ) (lowers : Bool) → IsReduced value number zeros → number ≢ 0
     → zeros + 100 < exponent → places + 100 < exponent → n ≤ 10 ^ 35 → ¬ (AreUnits value places lowers exponent n)
 units_huge value number zeros places exponent n true r some far_zeros far small e =
-    placed_below number (zeros + 15) (places + exponent) n (r.no_zero some) (omega arith) (sym (raise value number zeros 15 r) ∙ e)
+    placed_below number (zeros + 15) (places + exponent) n (r.no_zero some) (omega arith)
+    (sym (raise value number zeros 15 r) ∙ e)
 units_huge value number zeros places exponent n false r some far_zeros far small e =
     let f : n ≡ number * 10 ^ (zeros + (15 + exponent) - places) =
-    cancel_less n number places (zeros + (15 + exponent)) (omega arith) (sym e ∙ raise value number zeros (15 + exponent) r) in
-    let g : zeros + (15 + exponent) - places ≤ 35 = too_great number (zeros + (15 + exponent) - places) (omega arith) (omega (arith, f)) in
+    cancel_less n number places (zeros + (15 + exponent)) (omega arith) (sym e
+    ∙ raise value number zeros (15 + exponent) r) in
+    let g : zeros + (15 + exponent) - places
+    ≤ 35 = too_great number (zeros + (15 + exponent) - places) (omega arith) (omega (arith, f)) in
     omega (arith, g)
 
 -- an exponent that lowers, and one that raises
-pub units_lowered : (value number ended places power exponent n : ℕ) (lowers : Bool) → lowers ≡ true → power ≡ exponent → IsReduced value number ended
+pub units_lowered : (value number ended places power exponent n : ℕ) (lowers : Bool) → lowers ≡ true → power ≡ exponent
+    → IsReduced value number ended
     → (number * 10 ^ (ended + 15) ≡ n * 10 ^ (places + power)) ↔ AreUnits value places lowers exponent n
 units_lowered value number ended places power exponent n true is same r = (
   λ e. raise value number ended 15 r ∙ (e ∙ ap (λ k. n * 10 ^ (places + k)) same),
@@ -179,7 +171,8 @@ units_lowered value number ended places power exponent n true is same r = (
 )
 units_lowered value number ended places power exponent n false is same r = cc
 
-pub units_raised : (value number ended places power exponent n : ℕ) (lowers : Bool) → lowers ≡ false → power ≡ exponent → IsReduced value number ended
+pub units_raised : (value number ended places power exponent n : ℕ) (lowers : Bool) → lowers ≡ false → power ≡ exponent
+    → IsReduced value number ended
     → (number * 10 ^ (ended + (15 + power)) ≡ n * 10 ^ places) ↔ AreUnits value places lowers exponent n
 units_raised value number ended places power exponent n false is same r = (
   λ e. raise value number ended (15 + exponent) r ∙ (ap (λ k. number * 10 ^ (ended + (15 + k))) (sym same) ∙ e),

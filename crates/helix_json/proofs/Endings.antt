@@ -11,33 +11,39 @@ use Rattle.helix_json.specs.declared.string.StringMove.{StringMove}
 use Rattle.helix_json.specs.declared.string.StringMove.TheVariants as move
 use Rattle.helix_json.specs.declared.digits.NumberState.{NumberState}
 use Rattle.helix_json.specs.declared.digits.NumberState.TheVariants as number
-use Rattle.helix_json.specs.NumberSteps.{accepts}
-use Rattle.helix_json.specs.Lexer.{Lex, between, in_string, in_number, in_word, lex, on_emission, prepend, word_token, word_move}
-use Rattle.helix_json.specs.Machine.{Reading, value, first_item, first_key, key, colon, after, Frame, in_list, in_object, run, step, on_some}
-use Rattle.helix_json.specs.Scan.{may_go, FineLex}
-use Rattle.helix_json.proofs.Machine.{closers, finish}
+use Rattle.helix_json.specs.Inner.NumberSteps.{accepts}
+use Rattle.helix_json.specs.Inner.Lexer.{Lex, between, in_string, in_number, in_word, lex, on_emission, prepend, word_token, word_move}
+use Rattle.helix_json.specs.Inner.Machine.{Reading, value, first_item, first_key, key, colon, after, Frame, in_list, in_object, run, step, on_some}
+use Rattle.helix_json.specs.Inner.Scan.{may_go, FineLex}
+use Rattle.helix_json.proofs.Finishes.{closers, finish}
 use Rattle.helix_json.proofs.Strings.{prepend_nil, lex_go, lex_give}
-use Rattle.helix_json.proofs.Lexing.{EndsNumber, number_read, number_leads}
-use Rattle.helix_json.specs.StringSteps.{Fine, string_step}
+use Rattle.helix_json.proofs.LexingNumbers.{EndsNumber, number_read}
+use Rattle.helix_json.proofs.Lexing.{number_leads}
+use Rattle.helix_json.specs.Inner.StringSteps.{Fine, string_step}
 
 -- each string can end
 abbrev pub EndsString : StringState → List ℕ → Type 0
-EndsString s sofar = (piece string : List ℕ) × ((r : List ℕ) → lex (piece ++ r) (in_string sofar s) ≡ prepend (token.Str string ∷ []) (lex r between))
+EndsString s sofar = (piece string : List ℕ)
+    × ((r : List ℕ) → lex (piece ++ r) (in_string sofar s) ≡ prepend (token.Str string ∷ []) (lex r between))
 
 ends_plain : (sofar : List ℕ) → EndsString state.Plain sofar
 unfolding lex
 ends_plain sofar = (34 ∷ [], sofar, λ r. refl)
 
-ends_go : (c : ℕ) (s next : StringState) (sofar : List ℕ) → string_step s c ≡ move.Go next → EndsString next sofar → EndsString s sofar
-ends_go c s next sofar e (piece, string, reads) = (c ∷ piece, string, λ r. lex_go c (piece ++ r) sofar s next e ∙ reads r)
+ends_go : (c : ℕ) (s next : StringState) (sofar : List ℕ) → string_step s c ≡ move.Go next → EndsString next sofar
+    → EndsString s sofar
+ends_go c s next sofar e (piece, string, reads) =
+    (c ∷ piece, string, λ r. lex_go c (piece ++ r) sofar s next e ∙ reads r)
 
 ends_give : (c d : ℕ) (s : StringState) (sofar : List ℕ) → string_step s c ≡ move.Give d → EndsString s sofar
-ends_give c d s sofar e = let (piece, string, reads) = ends_plain (sofar ++ d ∷ []) in (c ∷ piece, string, λ r. lex_give c d (piece ++ r) sofar s e ∙ reads r)
+ends_give c d s sofar e = let (piece, string, reads) = ends_plain (sofar ++ d ∷ []) in
+    (c ∷ piece, string, λ r. lex_give c d (piece ++ r) sofar s e ∙ reads r)
 
 ends_low : (high n v : ℕ) (sofar : List ℕ) → n ≤ 3 → EndsString (state.Low high n v) sofar
 ends_low high zero v sofar few = ends_go 68 (state.Low high 0 v) (state.Low high 1 (v * 16 + 13)) sofar refl
     (ends_go 67 (state.Low high 1 (v * 16 + 13)) (state.Low high 2 ((v * 16 + 13) * 16 + 12)) sofar refl
-    (ends_go 48 (state.Low high 2 ((v * 16 + 13) * 16 + 12)) (state.Low high 3 (((v * 16 + 13) * 16 + 12) * 16 + 0)) sofar refl
+    (ends_go 48 (state.Low high 2 ((v * 16 + 13) * 16 + 12)) (state.Low high 3 (((v * 16 + 13) * 16 + 12) * 16 + 0))
+    sofar refl
     (ends_give 48 _ (state.Low high 3 (((v * 16 + 13) * 16 + 12) * 16 + 0)) sofar refl)))
 ends_low high (suc zero) v sofar few = ends_go 67 (state.Low high 1 v) (state.Low high 2 (v * 16 + 12)) sofar refl
     (ends_go 48 (state.Low high 2 (v * 16 + 12)) (state.Low high 3 ((v * 16 + 12) * 16 + 0)) sofar refl
@@ -51,7 +57,9 @@ ends_high : (high : ℕ) (sofar : List ℕ) → EndsString (state.High high) sof
 ends_high high sofar = ends_go 92 (state.High high) (state.HighBackslash high) sofar refl
     (ends_go 117 (state.HighBackslash high) (state.Low high 0 0) sofar refl (ends_low high 0 0 sofar (omega arith)))
 
-three_by : (b : Bool) (v : ℕ) (sofar : List ℕ) → string_step (state.Unit 3 v) 48 ≡ cond b (move.Go (state.High (v * 16 + 0))) (move.Give (v * 16 + 0)) → EndsString (state.Unit 3 v) sofar
+three_by : (b : Bool) (v : ℕ) (sofar : List ℕ)
+    → string_step (state.Unit 3 v) 48 ≡ cond b (move.Go (state.High (v * 16 + 0))) (move.Give (v * 16 + 0))
+    → EndsString (state.Unit 3 v) sofar
 three_by true v sofar e = ends_go 48 (state.Unit 3 v) (state.High (v * 16 + 0)) sofar e (ends_high (v * 16 + 0) sofar)
 three_by false v sofar e = ends_give 48 (v * 16 + 0) (state.Unit 3 v) sofar e
 
@@ -63,13 +71,17 @@ one_by true x y = refl
 one_by false x y = refl
 
 ends_one : (v : ℕ) (sofar : List ℕ) → EndsString (state.Unit 1 v) sofar
-ends_one v sofar = ends_go 48 (state.Unit 1 v) (state.Unit 2 (v * 16 + 0)) sofar (one_by (v == 13) move.Refuse (move.Go (state.Unit 2 (v * 16 + 0))))
-    (ends_go 48 (state.Unit 2 (v * 16 + 0)) (state.Unit 3 ((v * 16 + 0) * 16 + 0)) sofar refl (ends_three ((v * 16 + 0) * 16 + 0) sofar))
+ends_one v sofar = ends_go 48 (state.Unit 1 v) (state.Unit 2 (v * 16 + 0)) sofar
+    (one_by (v == 13) move.Refuse (move.Go (state.Unit 2 (v * 16 + 0))))
+    (ends_go 48 (state.Unit 2 (v * 16 + 0)) (state.Unit 3 ((v * 16 + 0) * 16 + 0)) sofar refl
+    (ends_three ((v * 16 + 0) * 16 + 0) sofar))
 
 ends_unit : (n v : ℕ) (sofar : List ℕ) → n ≤ 3 → EndsString (state.Unit n v) sofar
-ends_unit zero v sofar few = ends_go 48 (state.Unit 0 v) (state.Unit 1 (v * 16 + 0)) sofar refl (ends_one (v * 16 + 0) sofar)
+ends_unit zero v sofar few = ends_go 48 (state.Unit 0 v) (state.Unit 1 (v * 16 + 0)) sofar refl
+    (ends_one (v * 16 + 0) sofar)
 ends_unit (suc zero) v sofar few = ends_one v sofar
-ends_unit (suc (suc zero)) v sofar few = ends_go 48 (state.Unit 2 v) (state.Unit 3 (v * 16 + 0)) sofar refl (ends_three (v * 16 + 0) sofar)
+ends_unit (suc (suc zero)) v sofar few =
+    ends_go 48 (state.Unit 2 v) (state.Unit 3 (v * 16 + 0)) sofar refl (ends_three (v * 16 + 0) sofar)
 ends_unit (suc (suc (suc zero))) v sofar few = ends_three v sofar
 ends_unit (suc (suc (suc (suc n)))) v sofar few = absurd (omega arith)
 
@@ -78,7 +90,8 @@ ends_string state.Plain sofar fine = ends_plain sofar
 ends_string state.Backslash sofar fine = ends_give 34 34 state.Backslash sofar refl
 ends_string (state.Unit n v) sofar fine = ends_unit n v sofar fine.few
 ends_string (state.High high) sofar fine = ends_high high sofar
-ends_string (state.HighBackslash high) sofar fine = ends_go 117 (state.HighBackslash high) (state.Low high 0 0) sofar refl (ends_low high 0 0 sofar (omega arith))
+ends_string (state.HighBackslash high) sofar fine =
+    ends_go 117 (state.HighBackslash high) (state.Low high 0 0) sofar refl (ends_low high 0 0 sofar (omega arith))
 ends_string (state.Low high n v) sofar fine = ends_low high n v sofar fine.1.few
 
 -- each number can end
@@ -100,10 +113,12 @@ word_step w d e es = cond-true (d == d) _ _ (eq-eqb d d refl)
 word_last : (w : Word) (d : ℕ) → word_move w d (d ∷ []) ≡ Some (word_token w ∷ [], between)
 word_last w d = cond-true (d == d) _ _ (eq-eqb d d refl)
 
-pub word_read : (w : Word) (d : ℕ) (ds r : List ℕ) → lex (d ∷ ds ++ r) (in_word w (d ∷ ds)) ≡ prepend (word_token w ∷ []) (lex r between)
+pub word_read : (w : Word) (d : ℕ) (ds r : List ℕ)
+    → lex (d ∷ ds ++ r) (in_word w (d ∷ ds)) ≡ prepend (word_token w ∷ []) (lex r between)
 unfolding lex
 word_read w d [] r = ap (λ m. on_emission m (λ l. lex r l)) (word_last w d)
-word_read w d (e ∷ ds) r = ap (λ m. on_emission m (λ l. lex (e ∷ ds ++ r) l)) (word_step w d e ds) ∙ (prepend_nil _ ∙ word_read w e ds r)
+word_read w d (e ∷ ds) r = ap (λ m. on_emission m (λ l. lex (e ∷ ds ++ r) l)) (word_step w d e ds)
+    ∙ (prepend_nil _ ∙ word_read w e ds r)
 
 -- a text of what can follow
 abbrev closing_text : List Frame → List ℕ
@@ -125,7 +140,8 @@ closing_read [] = refl
 closing_read (in_list xs ∷ fs) = ap (prepend (token.CloseList ∷ [])) (closing_read fs)
 closing_read (in_object ms k ∷ fs) = ap (prepend (token.CloseObject ∷ [])) (closing_read fs)
 
-null_text : (o : Option (List Token)) (ts : List Token) → o ≡ Some ts → prepend [] (prepend [] (prepend [] (prepend (token.Null ∷ []) o))) ≡ Some (token.Null ∷ ts)
+null_text : (o : Option (List Token)) (ts : List Token) → o ≡ Some ts
+    → prepend [] (prepend [] (prepend [] (prepend (token.Null ∷ []) o))) ≡ Some (token.Null ∷ ts)
 null_text o ts e = ap (λ x. prepend [] (prepend [] (prepend [] (prepend (token.Null ∷ []) x)))) e
 
 finish_read : (r : Reading) → lex (finish_text r) between ≡ Some (finish r)
@@ -133,8 +149,10 @@ unfolding lex
 finish_read (value fs) = null_text _ _ (closing_read fs)
 finish_read (first_item fs) = ap (prepend (token.CloseList ∷ [])) (closing_read fs)
 finish_read (first_key fs) = ap (prepend (token.CloseObject ∷ [])) (closing_read fs)
-finish_read (key ms fs) = ap (λ x. prepend [] (prepend (token.Str [] ∷ []) (prepend (token.Colon ∷ []) x))) (null_text _ _ (ap (prepend (token.CloseObject ∷ [])) (closing_read fs)))
-finish_read (colon ms k fs) = ap (prepend (token.Colon ∷ [])) (null_text _ _ (ap (prepend (token.CloseObject ∷ [])) (closing_read fs)))
+finish_read (key ms fs) = ap (λ x. prepend [] (prepend (token.Str [] ∷ []) (prepend (token.Colon ∷ []) x)))
+    (null_text _ _ (ap (prepend (token.CloseObject ∷ [])) (closing_read fs)))
+finish_read (colon ms k fs) = ap (prepend (token.Colon ∷ []))
+    (null_text _ _ (ap (prepend (token.CloseObject ∷ [])) (closing_read fs)))
 finish_read (after x fs) = closing_read fs
 
 closing_ends : (fs : List Frame) → EndsNumber (closing_text fs)
@@ -173,7 +191,8 @@ number_same (after x (in_object ms k ∷ fs)) s t = refl
 
 -- the token that is being read can end, and then the value
 abbrev pub Ends : Reading → Lex → Type 0
-Ends r l = (q : Reading) × (ts : List Token) × (run r ts ≡ Some q) × (text : List ℕ) × (lex text l ≡ Some (ts ++ finish q))
+Ends r l = (q : Reading) × (ts : List Token) × (run r ts ≡ Some q) × (text : List ℕ)
+    × (lex text l ≡ Some (ts ++ finish q))
 
 pub run_one : (r q : Reading) (t : Token) → step r t ≡ Some q → run r (t ∷ []) ≡ Some q
 run_one r q t e = ap (λ o. on_some o (λ next. run next [])) e
@@ -200,7 +219,8 @@ ends r (in_number sofar n) go fine =
       token.Number (sofar ++ digits) ∷ [],
       run_one r q (token.Number (sofar ++ digits)) is,
       digits ++ finish_text q,
-      number_read digits (finish_text q) sofar n ok (ends_after q x fs same) ∙ ap (prepend (token.Number (sofar ++ digits) ∷ [])) (finish_read q),
+      number_read digits (finish_text q) sofar n ok (ends_after q x fs same)
+          ∙ ap (prepend (token.Number (sofar ++ digits) ∷ [])) (finish_read q),
     )
 ends r (in_word w []) go fine = absurd (fine refl)
 ends r (in_word w (d ∷ ds)) go fine =

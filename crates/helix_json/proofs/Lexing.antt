@@ -1,6 +1,5 @@
 -- A text of tokens that lead to a value is cut in one way.
-use Rattle.std.proofs.Common.{◌≡◌, ℕ, ◌≤◌, ◌<◌, ◌⊎◌, inl, inr, true, false, IsTrue, ◌==◌, ◌||◌, Option, Some, None, List, [], ◌∷◌, ◌++◌, refl, sym, ◌∙◌, ap, subst, arith, append_assoc}
-use Rattle.std.proofs.lemmas.Bool.{eqb-true, cond-true, cond-false}
+use Rattle.std.proofs.Common.{◌≡◌, ℕ, true, Option, Some, None, List, [], ◌∷◌, ◌++◌, refl, sym, ◌∙◌, ap, subst, append_assoc}
 use Rattle.std.proofs.lemmas.List.{append-nil}
 use Rattle.helix_json.specs.declared.value.Json.{Json}
 use Rattle.helix_json.specs.declared.value.Json as json
@@ -8,118 +7,20 @@ use Rattle.helix_json.specs.declared.token.Token.{Token}
 use Rattle.helix_json.specs.declared.token.Token.TheVariants as token
 use Rattle.helix_json.specs.declared.class.Mark.{Mark}
 use Rattle.helix_json.specs.declared.class.Mark.TheVariants as mark
-use Rattle.helix_json.specs.declared.class.Class.TheVariants as class_is
 use Rattle.helix_json.specs.declared.string.StringState.TheVariants as state
 use Rattle.helix_json.specs.declared.digits.NumberState.{NumberState}
 use Rattle.helix_json.specs.declared.digits.NumberState.TheVariants as number
-use Rattle.helix_json.specs.declared.digits.NumberCharacter.{NumberCharacter}
 use Rattle.helix_json.specs.declared.digits.NumberCharacter.TheVariants as kind
-use Rattle.helix_json.specs.NumberSteps.{kind_of, number_step, if_some, accepts}
-use Rattle.helix_json.specs.Text.{is_blank, AreBlanks, SpellsToken, Cuts, SpellsText}
+use Rattle.helix_json.specs.Inner.NumberSteps.{kind_of, number_step, if_some, accepts}
+use Rattle.helix_json.specs.Text.{AreBlanks, SpellsToken, Cuts, SpellsText}
 use Rattle.helix_json.specs.Tokens.{tokens}
-use Rattle.helix_json.specs.Lexer.{Lex, between, in_string, in_number, lex, on_emission, prepend, class, by_class, between_step, mark_token, begin_number, number_move, end_number, end_tokens, with_token, Emission}
-use Rattle.helix_json.specs.Machine.{Reading, value, first_item, first_key, key, colon, after, Frame, in_list, in_object, run, step, on_some}
+use Rattle.helix_json.specs.Inner.Lexer.{between, in_string, lex, on_emission, prepend, by_class, mark_token, begin_number}
+use Rattle.helix_json.specs.Inner.Machine.{Reading, value, first_item, first_key, key, colon, after, Frame, in_list, in_object, run, step, on_some}
 use Rattle.helix_json.proofs.Machine.{run_tokens, tokens_same}
-use Rattle.helix_json.proofs.NumberGrammar.{tail_to, Means, means}
+use Rattle.helix_json.proofs.NumberGrammar.{means}
+use Rattle.helix_json.proofs.NumberReading.{tail_to}
 use Rattle.helix_json.proofs.Strings.{prepend_nil, chars_read}
-use Rattle.helix_json.proofs.Decides.{bool_false, differ, either_of}
-
--- what a class says of a character
-abbrev pub mark_code : Mark → ℕ
-mark_code mark.OpenList = 91
-mark_code mark.CloseList = 93
-mark_code mark.OpenObject = 123
-mark_code mark.CloseObject = 125
-mark_code mark.Comma = 44
-mark_code mark.Colon = 58
-
-pub blank_class : (c : ℕ) → IsTrue (is_blank c) → class c ≡ class_is.Blank
-blank_class c e = cond-true _ _ _ e
-
-blank_cases : (c : ℕ) → IsTrue (is_blank c) → kind_of c ≡ kind.Other
-blank_cases c e = elim (either_of _ _ e) [
-  | inl f ↦ (elim (either_of _ _ f) [
-    | inl g ↦ (elim (either_of _ _ g) [ inl h ↦ ap kind_of (eqb-true c 32 h) | inr h ↦ ap kind_of (eqb-true c 9 h) ])
-    | inr g ↦ ap kind_of (eqb-true c 10 g)
-  ])
-  | inr f ↦ ap kind_of (eqb-true c 13 f)
-]
-
-at_most : (c k : ℕ) → 44 < c → k ≤ 44 → (c == k) ≡ true → ⊥
-at_most c k low small e = let f : c ≡ k = eqb-true c k e in omega arith
-
-blank_least : (c : ℕ) → 44 < c → (((c == 32 || c == 9) ≡ true) ⊎ ((c == 10) ≡ true)) → ⊥
-blank_least c low (inl f) = elim (either_of _ _ f) [ inl g ↦ at_most c 32 low (omega arith) g | inr g ↦ at_most c 9 low (omega arith) g ]
-blank_least c low (inr f) = at_most c 10 low (omega arith) f
-
-blank_small : (c : ℕ) → 44 < c → IsTrue (is_blank c) → ⊥
-blank_small c low e = elim (either_of _ _ e) [ inl f ↦ blank_least c low (either_of _ _ f) | inr f ↦ at_most c 13 low (omega arith) f ]
-
-not_blank : (c : ℕ) → 44 < c → is_blank c ≡ false
-not_blank c low = bool_false _ (λ e. blank_small c low e)
-
--- a character that begins a number
-other_class : (c : ℕ) → 44 < c → c < 58 → class c ≡ class_is.Other
-other_class c low high = cond-false _ _ _ (not_blank c low) ∙ (cond-false _ _ _ (differ c 91 (λ e. omega arith)) ∙ (cond-false _ _ _ (differ c 93 (λ e. omega arith))
-    ∙ (cond-false _ _ _ (differ c 123 (λ e. omega arith)) ∙ (cond-false _ _ _ (differ c 125 (λ e. omega arith)) ∙ (cond-false _ _ _ (differ c 44 (λ e. omega arith))
-    ∙ (cond-false _ _ _ (differ c 58 (λ e. omega arith)) ∙ (cond-false _ _ _ (differ c 34 (λ e. omega arith)) ∙ (cond-false _ _ _ (differ c 110 (λ e. omega arith))
-    ∙ (cond-false _ _ _ (differ c 116 (λ e. omega arith)) ∙ cond-false _ _ _ (differ c 102 (λ e. omega arith)))))))))))
-
-number_class : (c : ℕ) (k : NumberCharacter) (n : NumberState) → Means k c → number_step number.Nothing k ≡ Some n → class c ≡ class_is.Other
-number_class c kind.Minus n m e = other_class c (omega arith) (omega arith)
-number_class c kind.Zero n m e = other_class c (omega arith) (omega arith)
-number_class c kind.Digit n m e = other_class c (omega (arith, m.0)) (omega (arith, m.1))
-number_class c _ n m e = cc
-
--- blanks are passed
-pub blanks_skip : (w r : List ℕ) → AreBlanks w → lex (w ++ r) between ≡ lex r between
-unfolding lex
-blanks_skip [] r h = refl
-blanks_skip (c ∷ w) r h = ap (λ k. on_emission (by_class k c) (λ l. lex (w ++ r) l)) (blank_class c h.0) ∙ (prepend_nil _ ∙ blanks_skip w r h.1)
-
--- where a number ends
-abbrev pub EndsNumber : List ℕ → Type 0
-EndsNumber [] = Unit {0}
-EndsNumber (c ∷ cs) = kind_of c ≡ kind.Other
-
-no_step : (n : NumberState) → number_step n kind.Other ≡ None
-no_step number.Nothing = refl
-no_step number.Minus = refl
-no_step number.Zero = refl
-no_step number.Whole = refl
-no_step number.Point = refl
-no_step number.Fraction = refl
-no_step number.Mark = refl
-no_step number.Sign = refl
-no_step number.Exponent = refl
-
-prepend_twice : (t : Token) (ts : List Token) (o : Option (List Token)) → prepend (t ∷ ts) o ≡ prepend (t ∷ []) (prepend ts o)
-prepend_twice t ts None = refl
-prepend_twice t ts (Some us) = refl
-
-pub with_front : (t : Token) (e : Emission) (f : Lex → Option (List Token)) → on_emission (with_token t e) f ≡ prepend (t ∷ []) (on_emission e f)
-with_front t None f = refl
-with_front t (Some (ts, l)) f = prepend_twice t ts (f l)
-
-number_on : (c : ℕ) (text r sofar : List ℕ) (n : NumberState) (o : Option NumberState) → number_step n (kind_of c) ≡ o
-    → if_some o (λ next. accepts next text) ≡ true
-    → ((next : NumberState) → accepts next text ≡ true → lex (text ++ r) (in_number (sofar ++ c ∷ []) next) ≡ prepend (token.Number ((sofar ++ c ∷ []) ++ text) ∷ []) (lex r between))
-    → lex (c ∷ text ++ r) (in_number sofar n) ≡ prepend (token.Number (sofar ++ c ∷ text) ∷ []) (lex r between)
-unfolding lex
-number_on c text r sofar n None is e ih = cc
-number_on c text r sofar n (Some next) is e ih = ap (λ o. on_emission (number_move sofar n o c) (λ l. lex (text ++ r) l)) is
-    ∙ (prepend_nil _ ∙ (ih next e ∙ ap (λ l. prepend (token.Number l ∷ []) (lex r between)) (append_assoc sofar (c ∷ []) text)))
-
-pub number_read : (text r sofar : List ℕ) (n : NumberState) → accepts n text ≡ true → EndsNumber r
-    → lex (text ++ r) (in_number sofar n) ≡ prepend (token.Number (sofar ++ text) ∷ []) (lex r between)
-unfolding lex accepts
-number_read [] [] sofar n e stops = ap (end_tokens sofar) e ∙ ap (λ l. Some (token.Number l ∷ [])) (sym (append-nil sofar))
-number_read [] (c ∷ cs) sofar n e stops =
-    ap (λ o. on_emission (number_move sofar n o c) (λ l. lex cs l)) (ap (number_step n) stops ∙ no_step n)
-    ∙ (ap (λ b. on_emission (end_number sofar b (between_step c)) (λ l. lex cs l)) e
-    ∙ (with_front (token.Number sofar) (between_step c) (λ l. lex cs l)
-    ∙ ap (λ l. prepend (token.Number l ∷ []) (lex (c ∷ cs) between)) (sym (append-nil sofar))))
-number_read (c ∷ text) r sofar n e stops = number_on c text r sofar n (number_step n (kind_of c)) refl e (λ next h. number_read text r (sofar ++ c ∷ []) next h stops)
+use Rattle.helix_json.proofs.LexingNumbers.{mark_code, blank_cases, number_class, blanks_skip, EndsNumber, number_read}
 
 -- the first token is read
 abbrev pub Stops : Token → List ℕ → Type 0
@@ -136,7 +37,8 @@ begin_read c cs r (Some n) is e stops =
     ∙ (ap (λ o. on_emission (begin_number c o) (λ l. lex (cs ++ r) l)) is
     ∙ (prepend_nil _ ∙ number_read cs r (c ∷ []) n e stops))
 
-whole_read : (text r : List ℕ) → accepts number.Nothing text ≡ true → EndsNumber r → lex (text ++ r) between ≡ prepend (token.Number text ∷ []) (lex r between)
+whole_read : (text r : List ℕ) → accepts number.Nothing text ≡ true → EndsNumber r
+    → lex (text ++ r) between ≡ prepend (token.Number text ∷ []) (lex r between)
 unfolding accepts
 whole_read [] r e stops = cc
 whole_read (c ∷ cs) r e stops = begin_read c cs r (number_step number.Nothing (kind_of c)) refl e stops
@@ -144,7 +46,8 @@ whole_read (c ∷ cs) r e stops = begin_read c cs r (number_step number.Nothing 
 four_nils : (o : Option (List Token)) → prepend [] (prepend [] (prepend [] o)) ≡ o
 four_nils o = prepend_nil _ ∙ (prepend_nil _ ∙ prepend_nil o)
 
-pub token_read : (t : Token) (piece r : List ℕ) → SpellsToken piece t → Stops t r → lex (piece ++ r) between ≡ prepend (t ∷ []) (lex r between)
+pub token_read : (t : Token) (piece r : List ℕ) → SpellsToken piece t → Stops t r
+    → lex (piece ++ r) between ≡ prepend (t ∷ []) (lex r between)
 unfolding lex
 token_read token.OpenList piece r is stops = ap (λ p. lex (p ++ r) between) is
 token_read token.CloseList piece r is stops = ap (λ p. lex (p ++ r) between) is
@@ -158,9 +61,10 @@ token_read token.False piece r is stops = ap (λ p. lex (p ++ r) between) is ∙
 token_read (token.Number n) piece r (is, number_is) stops =
     ap (λ p. lex (p ++ r) between) is ∙ whole_read n r (tail_to n number.Nothing number_is) stops
 token_read (token.Str s) piece r (inner, is, chars) stops = ap (λ p. lex (p ++ r) between) is
-    ∙ (prepend_nil _ ∙ (ap (λ l. lex l (in_string [] state.Plain)) (append_assoc inner (34 ∷ []) r) ∙ chars_read s inner r [] chars))
+    ∙ (prepend_nil _ ∙ (ap (λ l. lex l (in_string [] state.Plain)) (append_assoc inner (34 ∷ []) r)
+    ∙ chars_read s inner r [] chars))
 
--- behind a number stands a structural character
+-- after a number comes a structural character
 abbrev pub IsMark : Token → Type 0
 IsMark t = (m : Mark) × (t ≡ mark_token m)
 
@@ -188,7 +92,8 @@ blanks_end_before : (w r : List ℕ) → AreBlanks w → EndsNumber r → EndsNu
 blanks_end_before [] r h e = e
 blanks_end_before (c ∷ w) r h e = blank_cases c h.0
 
-mark_follows : (m : Mark) (t : Token) (ts : List Token) (text : List ℕ) → t ≡ mark_token m → Cuts text (t ∷ ts) → EndsNumber text
+mark_follows : (m : Mark) (t : Token) (ts : List Token) (text : List ℕ) → t ≡ mark_token m → Cuts text (t ∷ ts)
+    → EndsNumber text
 mark_follows m t ts text e (w, piece, rest, is, blanks, spells, others) =
     let one : piece ≡ mark_code m ∷ [] = mark_ends m piece (subst (SpellsToken piece) e spells) in
     subst EndsNumber (sym is) (blanks_end_before w (piece ++ rest) blanks
@@ -206,9 +111,14 @@ after_number x (in_object ms k ∷ fs) _ s e = cc
 led_to : (a b : Reading) → Some a ≡ Some b → a ≡ b
 led_to a b e = cc
 
-pub number_leads : (r : Reading) (n : List ℕ) (s : Reading) → step r (token.Number n) ≡ Some s → (x : Json) × (fs : List Frame) × (after x fs ≡ s)
+pub number_leads : (r : Reading) (n : List ℕ) (s : Reading) → step r (token.Number n) ≡ Some s
+    → (x : Json) × (fs : List Frame) × (after x fs ≡ s)
 number_leads (value fs) n s e = (json.Number n, fs, led_to (after (json.Number n) fs) s e)
-number_leads (first_item fs) n s e = (json.Number n, in_list [] ∷ fs, led_to (after (json.Number n) (in_list [] ∷ fs)) s e)
+number_leads (first_item fs) n s e = (
+  json.Number n,
+  in_list [] ∷ fs,
+  led_to (after (json.Number n) (in_list [] ∷ fs)) s e,
+)
 number_leads (first_key fs) n s e = cc
 number_leads (key ms fs) n s e = cc
 number_leads (colon ms k fs) n s e = cc
@@ -216,11 +126,13 @@ number_leads (after x []) n s e = cc
 number_leads (after x (in_list xs ∷ fs)) n s e = cc
 number_leads (after x (in_object ms k ∷ fs)) n s e = cc
 
-step_some : (o : Option Reading) (ts : List Token) (q : Reading) → on_some o (λ next. run next ts) ≡ Some q → (s : Reading) × (o ≡ Some s) × (run s ts ≡ Some q)
+step_some : (o : Option Reading) (ts : List Token) (q : Reading) → on_some o (λ next. run next ts) ≡ Some q
+    → (s : Reading) × (o ≡ Some s) × (run s ts ≡ Some q)
 step_some None ts q e = cc
 step_some (Some s) ts q e = (s, refl, e)
 
-number_stops : (x : Json) (fs : List Frame) (ts : List Token) (rest : List ℕ) (q : Reading) → run (after x fs) ts ≡ Some q → Cuts rest ts → EndsNumber rest
+number_stops : (x : Json) (fs : List Frame) (ts : List Token) (rest : List ℕ) (q : Reading)
+    → run (after x fs) ts ≡ Some q → Cuts rest ts → EndsNumber rest
 number_stops x fs [] rest q e cuts = blanks_end rest cuts
 number_stops x fs (t ∷ ts) rest q e cuts =
     let (s, is, goes) = step_some (step (after x fs) t) ts q e in
@@ -233,12 +145,14 @@ stops_after r (token.Number n) s ts rest q is goes cuts =
 stops_after r _ s ts rest q is goes cuts = tt
 
 -- tokens that lead somewhere are read back from each text that they are cut from
-pub lexes : (ts : List Token) (text : List ℕ) (r q : Reading) → run r ts ≡ Some q → Cuts text ts → lex text between ≡ Some ts
+pub lexes : (ts : List Token) (text : List ℕ) (r q : Reading) → run r ts ≡ Some q → Cuts text ts
+    → lex text between ≡ Some ts
 unfolding lex
 lexes [] text r q e blanks = ap (λ l. lex l between) (sym (append-nil text)) ∙ blanks_skip text [] blanks
 lexes (t ∷ ts) text r q e (w, piece, rest, is, blanks, spells, others) =
     let (s, go, goes) = step_some (step r t) ts q e in
-    ap (λ l. lex l between) is ∙ (blanks_skip w (piece ++ rest) blanks ∙ (token_read t piece rest spells (stops_after r t s ts rest q go goes others)
+    ap (λ l. lex l between) is ∙ (blanks_skip w (piece ++ rest) blanks
+    ∙ (token_read t piece rest spells (stops_after r t s ts rest q go goes others)
     ∙ ap (prepend (t ∷ [])) (lexes ts rest s q goes others)))
 
 pub lexes_value : (text : List ℕ) (v : Json) → SpellsText text v → lex text between ≡ Some (tokens v)
@@ -249,4 +163,5 @@ some_same a b e = cc
 
 -- a text has at most one value
 pub one_value : (text : List ℕ) (v w : Json) → SpellsText text v → SpellsText text w → v ≡ w
-one_value text v w a b = tokens_same v w (some_same (tokens v) (tokens w) (sym (lexes_value text v a) ∙ lexes_value text w b))
+one_value text v w a b = tokens_same v w
+    (some_same (tokens v) (tokens w) (sym (lexes_value text v a) ∙ lexes_value text w b))

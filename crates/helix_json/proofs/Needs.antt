@@ -8,10 +8,10 @@ use Rattle.helix_json.specs.declared.need.Container.{Container}
 use Rattle.helix_json.specs.declared.need.Container.TheVariants as container
 use Rattle.helix_json.specs.declared.need.Advance.{Advance}
 use Rattle.helix_json.specs.declared.need.Advance.TheVariants as advance
-use Rattle.helix_json.specs.Machine.{Reading, value, first_item, first_key, key, colon, after, Frame, in_list, in_object, step, value_step}
-use Rattle.helix_json.specs.Need.{kind_of_token, need_step, value_need, need_of, opened, containers, innermost}
+use Rattle.helix_json.specs.Inner.Machine.{Reading, value, first_item, first_key, key, colon, after, Frame, in_list, in_object, step, value_step}
+use Rattle.helix_json.specs.Inner.Need.{kind_of_token, need_step, value_need, need_of, opened, containers, innermost}
 
--- behind a value the innermost container is known
+-- after a value the innermost container is known
 abbrev pub Knows : Reading → Option Container → Type 0
 Knows (after x fs) i = i ≡ innermost fs
 Knows _ i = Unit {0}
@@ -21,9 +21,11 @@ abbrev pub Does : Advance → Option Reading → Reading → Type 0
 Does advance.Refuse o r = o ≡ None
 Does (advance.Stay n) o r = (q : Reading) × (o ≡ Some q) × (need_of q ≡ n) × (containers q ≡ containers r)
 Does (advance.Open n c) o r = (q : Reading) × (o ≡ Some q) × (need_of q ≡ n) × (containers q ≡ containers r ++ c ∷ [])
-Does advance.Close o r = (q : Reading) × (c : Container) × (o ≡ Some q) × (need_of q ≡ need.After) × (containers r ≡ containers q ++ c ∷ [])
+Does advance.Close o r = (q : Reading) × (c : Container) × (o ≡ Some q) × (need_of q ≡ need.After)
+    × (containers r ≡ containers q ++ c ∷ [])
 
-value_does : (fs : List Frame) (t : Token) (r : Reading) → containers r ≡ opened fs → Does (value_need (kind_of_token t)) (value_step fs t) r
+value_does : (fs : List Frame) (t : Token) (r : Reading) → containers r ≡ opened fs
+    → Does (value_need (kind_of_token t)) (value_step fs t) r
 value_does fs token.Null r e = (_, refl, refl, sym e)
 value_does fs token.True r e = (_, refl, refl, sym e)
 value_does fs token.False r e = (_, refl, refl, sym e)
@@ -36,7 +38,8 @@ value_does fs token.CloseObject r e = refl
 value_does fs token.Comma r e = refl
 value_does fs token.Colon r e = refl
 
-item_does : (fs : List Frame) (t : Token) (i : Option Container) → Does (need_step need.FirstItem i (kind_of_token t)) (step (first_item fs) t) (first_item fs)
+item_does : (fs : List Frame) (t : Token) (i : Option Container)
+    → Does (need_step need.FirstItem i (kind_of_token t)) (step (first_item fs) t) (first_item fs)
 item_does fs token.CloseList i = (_, container.List, refl, refl, refl)
 item_does fs token.Null i = value_does (in_list [] ∷ fs) token.Null (first_item fs) refl
 item_does fs token.True i = value_does (in_list [] ∷ fs) token.True (first_item fs) refl
@@ -49,16 +52,18 @@ item_does fs token.CloseObject i = refl
 item_does fs token.Comma i = refl
 item_does fs token.Colon i = refl
 
-behind_does : (x : Json) (fs : List Frame) (t : Token) → Does (need_step need.After (innermost fs) (kind_of_token t)) (step (after x fs) t) (after x fs)
-behind_does x [] t = refl
-behind_does x (in_list xs ∷ fs) token.Comma = (_, refl, refl, refl)
-behind_does x (in_list xs ∷ fs) token.CloseList = (_, container.List, refl, refl, refl)
-behind_does x (in_list xs ∷ fs) _ = refl
-behind_does x (in_object ms k ∷ fs) token.Comma = (_, refl, refl, refl)
-behind_does x (in_object ms k ∷ fs) token.CloseObject = (_, container.Object, refl, refl, refl)
-behind_does x (in_object ms k ∷ fs) _ = refl
+after_does : (x : Json) (fs : List Frame) (t : Token)
+    → Does (need_step need.After (innermost fs) (kind_of_token t)) (step (after x fs) t) (after x fs)
+after_does x [] t = refl
+after_does x (in_list xs ∷ fs) token.Comma = (_, refl, refl, refl)
+after_does x (in_list xs ∷ fs) token.CloseList = (_, container.List, refl, refl, refl)
+after_does x (in_list xs ∷ fs) _ = refl
+after_does x (in_object ms k ∷ fs) token.Comma = (_, refl, refl, refl)
+after_does x (in_object ms k ∷ fs) token.CloseObject = (_, container.Object, refl, refl, refl)
+after_does x (in_object ms k ∷ fs) _ = refl
 
-pub does : (r : Reading) (t : Token) (i : Option Container) → Knows r i → Does (need_step (need_of r) i (kind_of_token t)) (step r t) r
+pub does : (r : Reading) (t : Token) (i : Option Container) → Knows r i
+    → Does (need_step (need_of r) i (kind_of_token t)) (step r t) r
 does (value fs) t i knows = value_does fs t (value fs) refl
 does (first_item fs) t i knows = item_does fs t i
 does (first_key fs) token.CloseObject i knows = (_, container.Object, refl, refl, refl)
@@ -68,4 +73,6 @@ does (key ms fs) (token.Str k) i knows = (_, refl, refl, refl)
 does (key ms fs) _ i knows = refl
 does (colon ms k fs) token.Colon i knows = (_, refl, refl, refl)
 does (colon ms k fs) _ i knows = refl
-does (after x fs) t i knows = subst (λ j. Does (need_step need.After j (kind_of_token t)) (step (after x fs) t) (after x fs)) (sym knows) (behind_does x fs t)
+does (after x fs) t i knows =
+    subst (λ j. Does (need_step need.After j (kind_of_token t)) (step (after x fs) t) (after x fs)) (sym knows)
+    (after_does x fs t)

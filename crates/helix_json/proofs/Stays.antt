@@ -1,4 +1,4 @@
--- Tokens in which each container that opens closes again, one behind the other.
+-- Tokens in which each container that opens closes again, one after the other.
 use Rattle.std.proofs.Common.{◌≡◌, ℕ, zero, suc, ◌+◌, true, false, List, [], ◌∷◌, ◌++◌, refl, sym, ◌∙◌, ap, arith, append_assoc}
 use Rattle.std.proofs.lemmas.Bool.{eqb-true, ne_eqb}
 use Rattle.std.proofs.lemmas.List.{append-nil}
@@ -8,28 +8,33 @@ use Rattle.helix_json.specs.declared.token.Token.{Token}
 use Rattle.helix_json.specs.declared.token.Token.TheVariants as token
 use Rattle.helix_json.specs.Tokens.{tokens, first_item, next_item, first_member, next_member}
 use Rattle.helix_json.specs.Broken.{Opens, stays}
-use Rattle.helix_json.specs.Scopes.{Closes}
+use Rattle.helix_json.specs.Inner.Scopes.{Closes}
 
 -- what closes k containers leaves the others open
-pub stays-front : (k l m : ℕ) (xs ys : List Token) → stays k xs ≡ true → m ≡ k + l → stays m (xs ++ ys) ≡ stays l ys
-stays-front zero l m [] ys h e = let f : m ≡ l = omega arith in ap (λ n. stays n ys) f
-stays-front (suc k) l m [] ys h e = let f : suc k ≡ 0 = eqb-true (suc k) 0 h in absurd (omega arith)
-stays-front k l m (token.OpenList ∷ xs) ys h e = let f : suc m ≡ suc k + l = omega arith in stays-front (suc k) l (suc m) xs ys h f
-stays-front k l m (token.OpenObject ∷ xs) ys h e = let f : suc m ≡ suc k + l = omega arith in stays-front (suc k) l (suc m) xs ys h f
-stays-front zero l m (token.CloseList ∷ xs) ys h e = cc
-stays-front zero l m (token.CloseObject ∷ xs) ys h e = cc
-stays-front (suc k) l zero (token.CloseList ∷ xs) ys h e = absurd (omega arith)
-stays-front (suc k) l zero (token.CloseObject ∷ xs) ys h e = absurd (omega arith)
-stays-front (suc k) l (suc m) (token.CloseList ∷ xs) ys h e = let f : m ≡ k + l = omega arith in stays-front k l m xs ys h f
-stays-front (suc k) l (suc m) (token.CloseObject ∷ xs) ys h e = let f : m ≡ k + l = omega arith in stays-front k l m xs ys h f
-stays-front k l m (_ ∷ xs) ys h e = stays-front k l m xs ys h e
+pub stays-prefix : (k l m : ℕ) (xs ys : List Token) → stays k xs ≡ true → m ≡ k + l → stays m (xs ++ ys) ≡ stays l ys
+stays-prefix zero l m [] ys h e = let f : m ≡ l = omega arith in ap (λ n. stays n ys) f
+stays-prefix (suc k) l m [] ys h e = let f : suc k ≡ 0 = eqb-true (suc k) 0 h in absurd (omega arith)
+stays-prefix k l m (token.OpenList ∷ xs) ys h e = let f : suc m ≡ suc k + l = omega arith in
+    stays-prefix (suc k) l (suc m) xs ys h f
+stays-prefix k l m (token.OpenObject ∷ xs) ys h e = let f : suc m ≡ suc k + l = omega arith in
+    stays-prefix (suc k) l (suc m) xs ys h f
+stays-prefix zero l m (token.CloseList ∷ xs) ys h e = cc
+stays-prefix zero l m (token.CloseObject ∷ xs) ys h e = cc
+stays-prefix (suc k) l zero (token.CloseList ∷ xs) ys h e = absurd (omega arith)
+stays-prefix (suc k) l zero (token.CloseObject ∷ xs) ys h e = absurd (omega arith)
+stays-prefix (suc k) l (suc m) (token.CloseList ∷ xs) ys h e = let f : m ≡ k + l = omega arith in
+    stays-prefix k l m xs ys h f
+stays-prefix (suc k) l (suc m) (token.CloseObject ∷ xs) ys h e = let f : m ≡ k + l = omega arith in
+    stays-prefix k l m xs ys h f
+stays-prefix k l m (_ ∷ xs) ys h e = stays-prefix k l m xs ys h e
 
-pub stays_behind : (xs ys : List Token) → stays 0 xs ≡ true → stays 0 (xs ++ ys) ≡ stays 0 ys
-stays_behind xs ys h = stays-front 0 0 0 xs ys h refl
+pub stays_after : (xs ys : List Token) → stays 0 xs ≡ true → stays 0 (xs ++ ys) ≡ stays 0 ys
+stays_after xs ys h = stays-prefix 0 0 0 xs ys h refl
 
--- what leaves all as it was can be left out behind
+-- what leaves all as it was can be left out at the end
 pub stays-back : (l : ℕ) (xs ys : List Token) → stays 0 ys ≡ true → stays l (xs ++ ys) ≡ stays l xs
-stays-back l [] ys h = let e : l ≡ 0 + l = omega arith in ap (stays l) (sym (append-nil ys)) ∙ stays-front 0 l l ys [] h e
+stays-back l [] ys h = let e : l ≡ 0 + l = omega arith in
+    ap (stays l) (sym (append-nil ys)) ∙ stays-prefix 0 l l ys [] h e
 stays-back l (token.OpenList ∷ xs) ys h = stays-back (suc l) xs ys h
 stays-back l (token.OpenObject ∷ xs) ys h = stays-back (suc l) xs ys h
 stays-back zero (token.CloseList ∷ xs) ys h = refl
@@ -55,7 +60,8 @@ opens_last (suc l) (token.CloseObject ∷ xs) t o = opens_last l xs t o
 opens_last l (_ ∷ xs) t o = opens_last l xs t o
 
 pub still_open : (l : ℕ) (xs ys : List Token) (t : Token) → Opens t → stays 0 ys ≡ true → stays l (xs ++ t ∷ ys) ≡ false
-still_open l xs ys t o h = ap (stays l) (sym (append_assoc xs (t ∷ []) ys)) ∙ (stays-back l (xs ++ t ∷ []) ys h ∙ opens_last l xs t o)
+still_open l xs ys t o h = ap (stays l) (sym (append_assoc xs (t ∷ []) ys))
+    ∙ (stays-back l (xs ++ t ∷ []) ys h ∙ opens_last l xs t o)
 
 opened : (t : Token) (xs : List Token) → Opens t → stays 0 (t ∷ xs) ≡ stays 1 xs
 opened token.OpenList xs o = refl
@@ -68,8 +74,10 @@ closed token.CloseObject c = refl
 closed _ c = absurd c
 
 -- a container that opens and closes
-pub closes_again : (xs ys : List Token) (t u : Token) → stays 0 xs ≡ true → Opens t → stays 0 ys ≡ true → Closes u → stays 0 (xs ++ t ∷ (ys ++ u ∷ [])) ≡ true
-closes_again xs ys t u h o k c = stays_behind xs (t ∷ (ys ++ u ∷ [])) h ∙ (opened t (ys ++ u ∷ []) o ∙ (stays-front 0 1 1 ys (u ∷ []) k refl ∙ closed u c))
+pub closes_again : (xs ys : List Token) (t u : Token) → stays 0 xs ≡ true → Opens t → stays 0 ys ≡ true → Closes u
+    → stays 0 (xs ++ t ∷ (ys ++ u ∷ [])) ≡ true
+closes_again xs ys t u h o k c = stays_after xs (t ∷ (ys ++ u ∷ [])) h
+    ∙ (opened t (ys ++ u ∷ []) o ∙ (stays-prefix 0 1 1 ys (u ∷ []) k refl ∙ closed u c))
 
 pub closes_none : (t : Token) (xs : List Token) → Closes t → stays 0 (t ∷ xs) ≡ false
 closes_none token.CloseList xs c = refl
@@ -91,19 +99,27 @@ mutual
 
   stays-first : {n : _} (l : ℕ) (row : Row_of-Json n) (r : List Token) → stays (suc l) (first_item row ++ r) ≡ stays l r
   stays-first l json.end_of-Json r = refl
-  stays-first l (json.more_of-Json x row) r = regroup (suc l) (tokens x) (next_item row) r ∙ (stays-value (suc l) x (next_item row ++ r) ∙ stays-next l row r)
+  stays-first l (json.more_of-Json x row) r =
+      regroup (suc l) (tokens x) (next_item row) r ∙ (stays-value (suc l) x (next_item row ++ r) ∙ stays-next l row r)
 
   stays-next : {n : _} (l : ℕ) (row : Row_of-Json n) (r : List Token) → stays (suc l) (next_item row ++ r) ≡ stays l r
   stays-next l json.end_of-Json r = refl
-  stays-next l (json.more_of-Json x row) r = regroup (suc l) (tokens x) (next_item row) r ∙ (stays-value (suc l) x (next_item row ++ r) ∙ stays-next l row r)
+  stays-next l (json.more_of-Json x row) r =
+      regroup (suc l) (tokens x) (next_item row) r ∙ (stays-value (suc l) x (next_item row ++ r) ∙ stays-next l row r)
 
-  stays-first_member : {n : _} (l : ℕ) (row : Row_of-Member n) (r : List Token) → stays (suc l) (first_member row ++ r) ≡ stays l r
+  stays-first_member : {n : _} (l : ℕ) (row : Row_of-Member n) (r : List Token)
+      → stays (suc l) (first_member row ++ r) ≡ stays l r
   stays-first_member l json.end_of-Member r = refl
-  stays-first_member l (json.more_of-Member k x row) r = regroup (suc l) (tokens x) (next_member row) r ∙ (stays-value (suc l) x (next_member row ++ r) ∙ stays-next_member l row r)
+  stays-first_member l (json.more_of-Member k x row) r =
+      regroup (suc l) (tokens x) (next_member row) r
+      ∙ (stays-value (suc l) x (next_member row ++ r) ∙ stays-next_member l row r)
 
-  stays-next_member : {n : _} (l : ℕ) (row : Row_of-Member n) (r : List Token) → stays (suc l) (next_member row ++ r) ≡ stays l r
+  stays-next_member : {n : _} (l : ℕ) (row : Row_of-Member n) (r : List Token)
+      → stays (suc l) (next_member row ++ r) ≡ stays l r
   stays-next_member l json.end_of-Member r = refl
-  stays-next_member l (json.more_of-Member k x row) r = regroup (suc l) (tokens x) (next_member row) r ∙ (stays-value (suc l) x (next_member row ++ r) ∙ stays-next_member l row r)
+  stays-next_member l (json.more_of-Member k x row) r =
+      regroup (suc l) (tokens x) (next_member row) r
+      ∙ (stays-value (suc l) x (next_member row ++ r) ∙ stays-next_member l row r)
 
 -- the tokens of a value leave all as it was
 pub stays-tokens : (v : Json) → stays 0 (tokens v) ≡ true

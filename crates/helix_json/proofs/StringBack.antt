@@ -1,16 +1,16 @@
 -- What has been read of a string's character, and what one more character of the text makes of it.
-use Rattle.std.proofs.Common.{◌≡◌, ℕ, ◌+◌, ◌*◌, ◌-◌, ◌≤◌, ◌<◌, inl, inr, zero, suc, Bool, true, false, ◌==◌, ◌&&◌, ◌||◌, nat_le, nat_lt, Option, Some, None, List, [], ◌∷◌, ◌++◌, length, refl, sym, ◌∙◌, ap, subst, arith, append_assoc}
-use Rattle.std.proofs.lemmas.Bool.{eqb-true, leb-true, leb-false, ltb-true, ltb-false, eq-eqb, le-leb, lt-ltb}
+use Rattle.std.proofs.Common.{◌≡◌, ℕ, ◌+◌, ◌*◌, ◌-◌, ◌≤◌, ◌<◌, inl, inr, zero, suc, Bool, true, false, ◌==◌, ◌&&◌, ◌||◌, nat_le, nat_lt, List, [], ◌∷◌, ◌++◌, length, refl, sym, ◌∙◌, ap, arith}
+use Rattle.std.proofs.lemmas.Bool.{leb-true, leb-false, ltb-true, ltb-false, eq-eqb, le-leb, lt-ltb, and_parts}
 use Rattle.std.specs.Char.{digit_value}
 use Rattle.helix_json.specs.declared.string.StringState.{StringState}
 use Rattle.helix_json.specs.declared.string.StringState.TheVariants as state
 use Rattle.helix_json.specs.declared.string.StringMove.{StringMove}
 use Rattle.helix_json.specs.declared.string.StringMove.TheVariants as move
-use Rattle.helix_json.specs.Text.{SpellsUnit, IsHigh, IsLow, How, itself, by_letter, by_unit, by_pair, SpellsAs, escaped}
-use Rattle.helix_json.specs.StringSteps.{UnitFine, LowFine, Fine, string_step, plain_step, backslash_step, give_or_refuse, unit_step, low_step}
+use Rattle.helix_json.specs.Text.{SpellsUnit, IsLow}
+use Rattle.helix_json.specs.Inner.StringSteps.{UnitFine, LowFine, unit_step, low_step}
 use Rattle.helix_json.proofs.Decimal.{le_or_lt}
 use Rattle.helix_json.proofs.NumberGrammar.{true_not_false}
-use Rattle.helix_json.proofs.Decides.{both_of, choose}
+use Rattle.helix_json.proofs.Choices.{choose}
 
 pub two_true : (a b : Bool) → a ≡ true → b ≡ true → (a && b) ≡ true
 two_true true b e f = f
@@ -27,7 +27,7 @@ right_true : (a b : Bool) → b ≡ true → (a || b) ≡ true
 right_true true b e = refl
 right_true false b e = e
 
--- hexadecimal digits behind a value
+-- hexadecimal digits after a value
 abbrev pub HexFrom : ℕ → List ℕ → ℕ → Type 0
 HexFrom v [] w = w ≡ v
 HexFrom v (d ∷ ds) w = (digit_value d < 16) × HexFrom (v * 16 + digit_value d) ds w
@@ -39,19 +39,21 @@ Prefix state.Backslash p = p ≡ 92 ∷ []
 Prefix (state.Unit n v) p = (ds : List ℕ) × (p ≡ 92 ∷ 117 ∷ ds) × (length ds ≡ n) × HexFrom 0 ds v
 Prefix (state.High high) p = SpellsUnit p high
 Prefix (state.HighBackslash high) p = (q : List ℕ) × (p ≡ q ++ 92 ∷ []) × SpellsUnit q high
-Prefix (state.Low high n v) p = (q ds : List ℕ) × (p ≡ q ++ 92 ∷ 117 ∷ ds) × (length ds ≡ n) × HexFrom 0 ds v × SpellsUnit q high
+Prefix (state.Low high n v) p = (q ds : List ℕ) × (p ≡ q ++ 92 ∷ 117 ∷ ds) × (length ds ≡ n) × HexFrom 0 ds v
+    × SpellsUnit q high
 
-hex_push : (ds : List ℕ) (v w d : ℕ) → HexFrom v ds w → digit_value d < 16 → HexFrom v (ds ++ d ∷ []) (w * 16 + digit_value d)
+pub hex_push : (ds : List ℕ) (v w d : ℕ) → HexFrom v ds w → digit_value d < 16
+    → HexFrom v (ds ++ d ∷ []) (w * 16 + digit_value d)
 hex_push [] v w d h small = (small, ap (λ x. x * 16 + digit_value d) h)
 hex_push (e ∷ ds) v w d h small = (h.0, hex_push ds (v * 16 + digit_value e) w d h.1 small)
 
-length_push : (ds : List ℕ) (d n : ℕ) → length ds ≡ n → length (ds ++ d ∷ []) ≡ n + 1
+pub length_push : (ds : List ℕ) (d n : ℕ) → length ds ≡ n → length (ds ++ d ∷ []) ≡ n + 1
 length_push [] d n e = ap suc e ∙ omega arith
 length_push (x ∷ ds) d zero e = cc
 length_push (x ∷ ds) d (suc n) e = let f : length ds ≡ n = omega arith in omega (arith, length_push ds d n f)
 
 -- four digits make a unit
-unit_of : (ds : List ℕ) (u : ℕ) → length ds ≡ 4 → HexFrom 0 ds u → SpellsUnit (92 ∷ 117 ∷ ds) u
+pub unit_of : (ds : List ℕ) (u : ℕ) → length ds ≡ 4 → HexFrom 0 ds u → SpellsUnit (92 ∷ 117 ∷ ds) u
 unit_of [] u e h = absurd (omega arith)
 unit_of (a ∷ []) u e h = absurd (omega arith)
 unit_of (a ∷ b ∷ []) u e h = absurd (omega arith)
@@ -100,15 +102,17 @@ pub unit_cases : (P : StringMove → Type 0) (n v h : ℕ) → P move.Refuse
 unit_cases P n v h refuse go high give =
     choose P (nat_le 16 h) _ _ (λ _. refuse) (λ small.
     choose P (n == 1 && (v == 13 && nat_le 12 h)) _ _ (λ _. refuse) (λ low.
-    choose P (nat_lt n 3) _ _ (λ few. go (leb-false 16 h small) (λ a b. below_twelve n v h low a b) (ltb-true n 3 few)) (λ many.
+    choose P (nat_lt n 3) _ _ (λ few. go (leb-false 16 h small) (λ a b. below_twelve n v h low a b) (ltb-true n 3 few))
+    (λ many.
     choose P (nat_le 0xD800 (v * 16 + h) && nat_lt (v * 16 + h) 0xDC00) _ _
-    (λ is. let p : (nat_le 0xD800 (v * 16 + h) ≡ true) × (nat_lt (v * 16 + h) 0xDC00 ≡ true) = both_of _ _ is in
+    (λ is. let p : (nat_le 0xD800 (v * 16 + h) ≡ true) × (nat_lt (v * 16 + h) 0xDC00 ≡ true) = and_parts _ _ is in
     high (leb-false 16 h small) (ltb-false n 3 many) (leb-true _ _ p.0) (ltb-true _ _ p.1))
     (λ is. give (leb-false 16 h small) (ltb-false n 3 many) (λ from. not_between (v * 16 + h) is from)))))
 
 pub low_cases : (P : StringMove → Type 0) (high n v h : ℕ) → P move.Refuse
     → (h < 16 → (n ≡ 0 → h ≡ 13) → (n ≡ 1 → 12 ≤ h) → n < 3 → P (move.Go (state.Low high (n + 1) (v * 16 + h))))
-    → (h < 16 → 3 ≤ n → P (move.Give (0x10000 + (high - 0xD800) * 0x400 + (v * 16 + h - 0xDC00)))) → P (low_step high n v h)
+    → (h < 16 → 3 ≤ n → P (move.Give (0x10000 + (high - 0xD800) * 0x400 + (v * 16 + h - 0xDC00))))
+    → P (low_step high n v h)
 low_cases P high n v h refuse go give =
     choose P (nat_le 16 h) _ _ (λ _. refuse) (λ small.
     choose P ((n == 0 && nat_lt h 13) || (n == 0 && nat_lt 13 h)) _ _ (λ _. refuse) (λ first.
@@ -123,29 +127,49 @@ unit_fine n v h fine small low few = record {
   zero_is = λ e. absurd (omega arith);
   one_is = λ e. let z : v ≡ 0 = fine.zero_is (omega arith) in omega arith;
   two_is = λ e. let z : v < 16 = fine.one_is (omega arith) in omega arith;
-  two_low = λ e below. let z : v < 16 = fine.one_is (omega arith) in let one : n ≡ 1 = omega arith in not_thirteen v h small below (low one);
+  two_low = λ e below. let z : v < 16 = fine.one_is (omega arith) in let one : n ≡ 1 = omega arith in
+      not_thirteen v h small below (low one);
   three_is = λ e. let z : v < 256 = fine.two_is (omega arith) in omega arith;
   three_low = λ e below. let z : v < 0xDC = fine.two_low (omega arith) (omega arith) in omega arith;
 }
 
-pub low_fine : (n v h : ℕ) → LowFine n v → h < 16 → (n ≡ 0 → h ≡ 13) → (n ≡ 1 → 12 ≤ h) → n < 3 → LowFine (n + 1) (v * 16 + h)
+pub low_fine : (n v h : ℕ) → LowFine n v → h < 16 → (n ≡ 0 → h ≡ 13) → (n ≡ 1 → 12 ≤ h) → n < 3
+    → LowFine (n + 1) (v * 16 + h)
 low_fine n v h fine small first second few = record {
   few = omega arith;
   zero_is = λ e. absurd (omega arith);
-  one_is = λ e. let n0 : n ≡ 0 = omega arith in let z : v ≡ 0 = fine.zero_is n0 in let f : h ≡ 13 = first n0 in omega arith;
-  two_from = λ e. let n1 : n ≡ 1 = omega arith in let z : v ≡ 13 = fine.one_is n1 in let f : 12 ≤ h = second n1 in omega arith;
+  one_is = λ e. let n0 : n ≡ 0 = omega arith in let z : v ≡ 0 = fine.zero_is n0 in let f : h ≡ 13 = first n0 in
+      omega arith;
+  two_from = λ e. let n1 : n ≡ 1 = omega arith in let z : v ≡ 13 = fine.one_is n1 in let f : 12 ≤ h = second n1 in
+      omega arith;
   two_to = λ e. let n1 : n ≡ 1 = omega arith in let z : v ≡ 13 = fine.one_is n1 in omega arith;
   three_from = λ e. let z : 0xDC ≤ v = fine.two_from (omega arith) in omega arith;
   three_to = λ e. let z : v < 0xE0 = fine.two_to (omega arith) in omega arith;
 }
 
 pub unit_start : UnitFine 0 0
-unit_start = record { few = omega arith; zero_is = λ e. refl; one_is = λ e. absurd (omega arith); two_is = λ e. absurd (omega arith); two_low = λ e. absurd (omega arith); three_is = λ e. absurd (omega arith); three_low = λ e. absurd (omega arith) }
+unit_start = record {
+  few = omega arith;
+  zero_is = λ e. refl;
+  one_is = λ e. absurd (omega arith);
+  two_is = λ e. absurd (omega arith);
+  two_low = λ e. absurd (omega arith);
+  three_is = λ e. absurd (omega arith);
+  three_low = λ e. absurd (omega arith);
+}
 
 pub low_start : LowFine 0 0
-low_start = record { few = omega arith; zero_is = λ e. refl; one_is = λ e. absurd (omega arith); two_from = λ e. absurd (omega arith); two_to = λ e. absurd (omega arith); three_from = λ e. absurd (omega arith); three_to = λ e. absurd (omega arith) }
+low_start = record {
+  few = omega arith;
+  zero_is = λ e. refl;
+  one_is = λ e. absurd (omega arith);
+  two_from = λ e. absurd (omega arith);
+  two_to = λ e. absurd (omega arith);
+  three_from = λ e. absurd (omega arith);
+  three_to = λ e. absurd (omega arith);
+}
 
-four : (ds : List ℕ) (c n : ℕ) → length ds ≡ n → 3 ≤ n → n ≤ 3 → length (ds ++ c ∷ []) ≡ 4
+pub four : (ds : List ℕ) (c n : ℕ) → length ds ≡ n → 3 ≤ n → n ≤ 3 → length (ds ++ c ∷ []) ≡ 4
 four ds c n e many few = omega (arith, length_push ds c n e)
 
 pub no_low : (n v h : ℕ) → UnitFine n v → 3 ≤ n → h < 16 → ¬ (IsLow (v * 16 + h))
@@ -155,81 +179,3 @@ no_low n v h fine many small (from, to) = let three : n ≡ 3 = omega (arith, fi
 pub low_last_is : (n v h : ℕ) → LowFine n v → 3 ≤ n → h < 16 → IsLow (v * 16 + h)
 low_last_is n v h fine many small = let three : n ≡ 3 = omega (arith, fine.few) in
     let f : 0xDC0 ≤ v = fine.three_from three in let g : v < 0xE00 = fine.three_to three in (omega arith, omega arith)
-
--- what a move makes of the text that led to it
-abbrev pub After : StringMove → List ℕ → Type 0
-After move.Refuse q = Unit {0}
-After (move.Go s) q = Fine s × Prefix s q
-After (move.Give d) q = (how : How) × SpellsAs how q d
-After move.Close q = q ≡ 34 ∷ []
-
-append_more : (a b : List ℕ) (c : ℕ) (p : List ℕ) → p ≡ a ++ b → p ++ c ∷ [] ≡ a ++ (b ++ c ∷ [])
-append_more a b c p e = ap (λ l. l ++ c ∷ []) e ∙ append_assoc a b (c ∷ [])
-
-plain_after : (c : ℕ) (p : List ℕ) → p ≡ [] → After (plain_step c) (p ++ c ∷ [])
-plain_after c p e = let one : p ++ c ∷ [] ≡ c ∷ [] = ap (λ l. l ++ c ∷ []) e in
-    choose (λ m. After m (p ++ c ∷ [])) (c == 34) _ _ (λ is. one ∙ ap (λ x. x ∷ []) (eqb-true c 34 is)) (λ quote.
-    choose (λ m. After m (p ++ c ∷ [])) (c == 92) _ _ (λ is. (tt, one ∙ ap (λ x. x ∷ []) (eqb-true c 92 is))) (λ slash.
-    choose (λ m. After m (p ++ c ∷ [])) (nat_lt c 32) _ _ (λ _. tt) (λ low.
-    (itself, (one, ltb-false c 32 low, (λ f. true_not_false (sym (eq-eqb c 34 f) ∙ quote)), (λ f. true_not_false (sym (eq-eqb c 92 f) ∙ slash)))))))
-
-letter_after : (c : ℕ) (p : List ℕ) (o : Option ℕ) → escaped c ≡ o → p ≡ 92 ∷ [] → After (give_or_refuse o) (p ++ c ∷ [])
-letter_after c p None is e = tt
-letter_after c p (Some d) is e = (by_letter, (c, ap (λ l. l ++ c ∷ []) e, is))
-
-backslash_after : (c : ℕ) (p : List ℕ) → p ≡ 92 ∷ [] → After (backslash_step c) (p ++ c ∷ [])
-backslash_after c p e =
-    choose (λ m. After m (p ++ c ∷ [])) (c == 117) _ _
-    (λ is. (unit_start, ([], ap (λ l. l ++ c ∷ []) e ∙ ap (λ x. 92 ∷ x ∷ []) (eqb-true c 117 is), refl, refl)))
-    (λ _. letter_after c p (escaped c) refl e)
-
-unit_after : (n v c : ℕ) (p : List ℕ) → UnitFine n v → Prefix (state.Unit n v) p → After (unit_step n v (digit_value c)) (p ++ c ∷ [])
-unit_after n v c p fine (ds, is, len, hex) =
-    let q : p ++ c ∷ [] ≡ 92 ∷ 117 ∷ ds ++ c ∷ [] = append_more (92 ∷ 117 ∷ []) ds c p is in
-    unit_cases (λ m. After m (p ++ c ∷ [])) n v (digit_value c) tt
-    (λ small low few. (unit_fine n v (digit_value c) fine small low few, (ds ++ c ∷ [], q, length_push ds c n len, hex_push ds 0 v c hex small)))
-    (λ small many from to. (
-      (from, to),
-      subst (λ t. SpellsUnit t (v * 16 + digit_value c)) (sym q)
-          (unit_of (ds ++ c ∷ []) _ (four ds c n len many fine.few) (hex_push ds 0 v c hex small)),
-    ))
-    (λ small many out. (
-      by_unit,
-      (
-        subst (λ t. SpellsUnit t (v * 16 + digit_value c)) (sym q)
-            (unit_of (ds ++ c ∷ []) _ (four ds c n len many fine.few) (hex_push ds 0 v c hex small)),
-        (λ high. let f : 0xDC00 ≤ v * 16 + digit_value c = out high.0 in let g : v * 16 + digit_value c < 0xDC00 = high.1 in omega arith),
-        (λ low. no_low n v (digit_value c) fine many small low),
-      ),
-    ))
-
-low_after : (high n v c : ℕ) (p : List ℕ) → IsHigh high → LowFine n v → Prefix (state.Low high n v) p → After (low_step high n v (digit_value c)) (p ++ c ∷ [])
-low_after high n v c p is_high fine (q, ds, is, len, hex, first) =
-    let r : p ++ c ∷ [] ≡ q ++ 92 ∷ 117 ∷ (ds ++ c ∷ []) = append_more q (92 ∷ 117 ∷ ds) c p is in
-    low_cases (λ m. After m (p ++ c ∷ [])) high n v (digit_value c) tt
-    (λ small one two few. ((is_high, low_fine n v (digit_value c) fine small one two few), (q, ds ++ c ∷ [], r, length_push ds c n len, hex_push ds 0 v c hex small, first)))
-    (λ small many. (
-      by_pair,
-      (
-        q,
-        92 ∷ 117 ∷ (ds ++ c ∷ []),
-        high,
-        v * 16 + digit_value c,
-        r,
-        first,
-        unit_of (ds ++ c ∷ []) _ (four ds c n len many fine.few) (hex_push ds 0 v c hex small),
-        is_high,
-        low_last_is n v (digit_value c) fine many small,
-        refl,
-      ),
-    ))
-
-pub string_after : (s : StringState) (c : ℕ) (p : List ℕ) → Fine s → Prefix s p → After (string_step s c) (p ++ c ∷ [])
-string_after state.Plain c p fine e = plain_after c p e
-string_after state.Backslash c p fine e = backslash_after c p e
-string_after (state.Unit n v) c p fine e = unit_after n v c p fine e
-string_after (state.High high) c p fine e = choose (λ m. After m (p ++ c ∷ [])) (c == 92) _ _
-    (λ is. (fine, (p, ap (λ x. p ++ x ∷ []) (eqb-true c 92 is), e))) (λ _. tt)
-string_after (state.HighBackslash high) c p fine (q, is, first) = choose (λ m. After m (p ++ c ∷ [])) (c == 117) _ _
-    (λ yes_is. ((fine, low_start), (q, [], append_more q (92 ∷ []) c p is ∙ ap (λ x. q ++ 92 ∷ x ∷ []) (eqb-true c 117 yes_is), refl, refl, first))) (λ _. tt)
-string_after (state.Low high n v) c p (is_high, fine) e = low_after high n v c p is_high fine e

@@ -24,7 +24,8 @@ token_fits _ piece h = tt
 
 all_fit : (ts : List Token) (text : List ℕ) → Cuts text ts → AllFit ts
 all_fit [] text h = tt
-all_fit (t ∷ ts) text (blanks, piece, rest, is, are, spells, others) = (token_fits t piece spells, all_fit ts rest others)
+all_fit (t ∷ ts) text (blanks, piece, rest, is, are, spells, others) =
+    (token_fits t piece spells, all_fit ts rest others)
 
 left_fit : (a b : List Token) → AllFit (a ++ b) → AllFit a
 left_fit [] b h = tt
@@ -45,19 +46,27 @@ mutual
 
   first_items : {n : _} (row : Row_of-Json n) → AllFit (first_item row) → ItemsHaveNumbers row
   first_items json.end_of-Json h = tt
-  first_items (json.more_of-Json x row) h = (numbers x (left_fit (tokens x) (next_item row) h), next_items row (right_fit (tokens x) (next_item row) h))
+  first_items (json.more_of-Json x row) h =
+      (numbers x (left_fit (tokens x) (next_item row) h), next_items row (right_fit (tokens x) (next_item row) h))
 
   next_items : {n : _} (row : Row_of-Json n) → AllFit (next_item row) → ItemsHaveNumbers row
   next_items json.end_of-Json h = tt
-  next_items (json.more_of-Json x row) h = (numbers x (left_fit (tokens x) (next_item row) h.1), next_items row (right_fit (tokens x) (next_item row) h.1))
+  next_items (json.more_of-Json x row) h =
+      (numbers x (left_fit (tokens x) (next_item row) h.1), next_items row (right_fit (tokens x) (next_item row) h.1))
 
   first_members : {n : _} (row : Row_of-Member n) → AllFit (first_member row) → MembersHaveNumbers row
   first_members json.end_of-Member h = tt
-  first_members (json.more_of-Member k x row) h = (numbers x (left_fit (tokens x) (next_member row) h.1.1), next_members row (right_fit (tokens x) (next_member row) h.1.1))
+  first_members (json.more_of-Member k x row) h = (
+    numbers x (left_fit (tokens x) (next_member row) h.1.1),
+    next_members row (right_fit (tokens x) (next_member row) h.1.1),
+  )
 
   next_members : {n : _} (row : Row_of-Member n) → AllFit (next_member row) → MembersHaveNumbers row
   next_members json.end_of-Member h = tt
-  next_members (json.more_of-Member k x row) h = (numbers x (left_fit (tokens x) (next_member row) h.1.1.1), next_members row (right_fit (tokens x) (next_member row) h.1.1.1))
+  next_members (json.more_of-Member k x row) h = (
+    numbers x (left_fit (tokens x) (next_member row) h.1.1.1),
+    next_members row (right_fit (tokens x) (next_member row) h.1.1.1),
+  )
 
 pub numbers_of_bytes : (bytes : List ℕ) (v : Json) → SpellsJson bytes v → HasNumbers v
 numbers_of_bytes bytes v (text, are, spells) = numbers v (all_fit (tokens v) text spells)

@@ -1,19 +1,8 @@
+-- What the public clauses rest on.
 pub mod Tokens
 pub mod Numbers
-pub mod Pieces
 pub mod Text
 pub mod Broken
-pub mod NumberSteps
-pub mod Machine
-pub mod StringSteps
-pub mod Lexer
-pub mod Scan
-pub mod Progress
-pub mod Lexeme
-pub mod Scanned
-pub mod Need
 pub mod Values
-pub mod Rules
-pub mod Building
-pub mod Scopes
-pub mod Reading
+-- What only private clauses cite, and lemmas for the crates above.
+pub mod Inner

@@ -1,18 +1,11 @@
 -- Numbers: RFC 8259, section 6.
-use Rattle.std.specs.Prelude.{◌≡◌, ◌≢◌, ◌⊎◌, ℕ, ◌+◌, ◌*◌, ◌-◌, ◌^◌, ◌≤◌, ℤ, pos, neg_ℤ, Bool, true, false, List, [], ◌∷◌, ◌++◌, length}
-
--- a digit, U+0030 to U+0039
-abbrev pub IsDigit : ℕ → Type 0
-IsDigit c = (48 ≤ c) × (c ≤ 57)
-
-abbrev pub AreDigits : List ℕ → Type 0
-AreDigits [] = Unit {0}
-AreDigits (c ∷ cs) = IsDigit c × AreDigits cs
+use Rattle.helix_base.specs.Digits.{is_digit, AreDigits}
+use Rattle.std.specs.Prelude.{IsTrue, ◌≡◌, ◌≢◌, ◌⊎◌, ℕ, ◌+◌, ◌*◌, ◌-◌, ◌^◌, ℤ, pos, neg_ℤ, Bool, true, false, List, [], ◌∷◌, ◌++◌, length}
 
 -- `0`, or a digit from 1 to 9 with further digits
 abbrev pub IsWhole : List ℕ → Type 0
 IsWhole [] = ⊥
-IsWhole (c ∷ cs) = IsDigit c × AreDigits cs × (c ≡ 48 → cs ≡ [])
+IsWhole (c ∷ cs) = IsTrue (is_digit c) × AreDigits cs × (c ≡ 48 → cs ≡ [])
 
 pub data Sign : Type 0 where
   plus : Sign
@@ -28,7 +21,7 @@ abbrev pub IsExponent : Exponent → Type 0
 IsExponent no_exponent = Unit {0}
 IsExponent (power mark sign digits) = ((mark ≡ 69) ⊎ (mark ≡ 101)) × (digits ≢ []) × AreDigits digits
 
--- the parts of a number: whether it begins with `-`, the digits before and behind the point, the exponent
+-- the parts of a number: whether it begins with `-`, the digits before and after the point, the exponent
 pub record Parts : Type 0 where
   pub negative : Bool
   pub whole : List ℕ
@@ -59,7 +52,8 @@ exponent_text no_exponent = []
 exponent_text (power mark sign digits) = mark ∷ sign_text sign ++ digits
 
 abbrev pub number_text : Parts → List ℕ
-number_text parts = minus_text parts.negative ++ (parts.whole ++ (fraction_text parts.fraction ++ exponent_text parts.exponent))
+number_text parts = minus_text parts.negative
+    ++ (parts.whole ++ (fraction_text parts.fraction ++ exponent_text parts.exponent))
 
 pub record SpellsNumber (text : List ℕ) (parts : Parts) : Type 0 where
   pub are : AreParts parts
@@ -69,7 +63,7 @@ pub record SpellsNumber (text : List ℕ) (parts : Parts) : Type 0 where
 abbrev pub IsNumber : List ℕ → Type 0
 IsNumber text = (parts : Parts) × SpellsNumber text parts
 
--- the number that digits write in base ten, behind those that have given n
+-- the number that digits write in base ten, after those that have given n
 abbrev pub digits_from : ℕ → List ℕ → ℕ
 digits_from n [] = n
 digits_from n (c ∷ cs) = digits_from (n * 10 + (c - 48)) cs
@@ -78,27 +72,29 @@ abbrev pub digits_value : List ℕ → ℕ
 digits_value digits = digits_from 0 digits
 
 -- the power of ten by which an exponent multiplies
-abbrev pub raised : Exponent → ℕ
-raised no_exponent = 0
-raised (power mark plus digits) = digits_value digits
-raised (power mark minus digits) = 0
-raised (power mark no_sign digits) = digits_value digits
+abbrev pub power_up : Exponent → ℕ
+power_up no_exponent = 0
+power_up (power mark plus digits) = digits_value digits
+power_up (power mark minus digits) = 0
+power_up (power mark no_sign digits) = digits_value digits
 
 -- the power of ten by which an exponent divides
-abbrev pub lowered : Exponent → ℕ
-lowered no_exponent = 0
-lowered (power mark plus digits) = 0
-lowered (power mark minus digits) = digits_value digits
-lowered (power mark no_sign digits) = 0
+abbrev pub power_down : Exponent → ℕ
+power_down no_exponent = 0
+power_down (power mark plus digits) = 0
+power_down (power mark minus digits) = digits_value digits
+power_down (power mark no_sign digits) = 0
 
 -- without its sign the number is n units of 10^-15; both sides are made whole by the powers that divide
 abbrev pub HasUnits : Parts → ℕ → Type 0
-HasUnits parts n = digits_value (parts.whole ++ parts.fraction) * 10 ^ (15 + raised parts.exponent) ≡ n * 10 ^ (length parts.fraction + lowered parts.exponent)
+HasUnits parts n = digits_value (parts.whole ++ parts.fraction) * 10 ^ (15 + power_up parts.exponent)
+    ≡ n * 10 ^ (length parts.fraction + power_down parts.exponent)
 
 abbrev pub signed : Bool → ℕ → ℤ
 signed true n = neg_ℤ (pos n)
 signed false n = pos n
 
--- the number is so many units of 10^-15
+-- the number is `units` units of 10^-15
 abbrev pub IsUnits : List ℕ → ℤ → Type 0
-IsUnits text units = (parts : Parts) × SpellsNumber text parts × (n : ℕ) × HasUnits parts n × (units ≡ signed parts.negative n)
+IsUnits text units = (parts : Parts) × SpellsNumber text parts × (n : ℕ) × HasUnits parts n
+    × (units ≡ signed parts.negative n)

@@ -15,10 +15,12 @@ abbrev pub AreBlanks : List ℕ → Type 0
 AreBlanks [] = Unit {0}
 AreBlanks (c ∷ cs) = IsTrue (is_blank c) × AreBlanks cs
 
--- the character that a letter behind a backslash stands for
+-- the character that a letter after a backslash means
 abbrev pub escaped : ℕ → Option ℕ
-escaped letter = if letter == 34 then Some 34 else if letter == 92 then Some 92 else if letter == 47 then Some 47 else if letter == 98 then Some 8
-    else if letter == 102 then Some 12 else if letter == 110 then Some 10 else if letter == 114 then Some 13 else if letter == 116 then Some 9 else None
+escaped letter = if letter == 34 then Some 34 else if letter == 92 then Some 92 else if letter == 47 then Some 47
+    else if letter == 98 then Some 8
+    else if letter == 102 then Some 12 else if letter == 110 then Some 10 else if letter == 114 then Some 13
+    else if letter == 116 then Some 9 else None
 
 -- `\u` and four hexadecimal digits, in either case
 abbrev pub SpellsUnit : List ℕ → ℕ → Type 0
@@ -32,7 +34,7 @@ IsHigh unit = (0xD800 ≤ unit) × (unit < 0xDC00)
 abbrev pub IsLow : ℕ → Type 0
 IsLow unit = (0xDC00 ≤ unit) × (unit < 0xE000)
 
--- how a character stands in a string
+-- how a character is written in a string
 pub data How : Type 0 where
   itself : How
   by_letter : How
@@ -43,13 +45,15 @@ abbrev pub SpellsAs : How → List ℕ → ℕ → Type 0
 SpellsAs itself text c = (text ≡ c ∷ []) × (32 ≤ c) × (c ≢ 34) × (c ≢ 92)
 SpellsAs by_letter text c = (letter : ℕ) × (text ≡ 92 ∷ letter ∷ []) × (escaped letter ≡ Some c)
 SpellsAs by_unit text c = SpellsUnit text c × ¬ (IsHigh c) × ¬ (IsLow c)
-SpellsAs by_pair text c = (first second : List ℕ) × (high low : ℕ) × (text ≡ first ++ second) × SpellsUnit first high × SpellsUnit second low
+SpellsAs by_pair text c = (first second : List ℕ) × (high low : ℕ) × (text ≡ first ++ second) × SpellsUnit first high
+    × SpellsUnit second low
     × IsHigh high × IsLow low × (c ≡ 0x10000 + (high - 0xD800) * 0x400 + (low - 0xDC00))
 
 -- the text between the quotes, character by character
 abbrev pub SpellsChars : List ℕ → List ℕ → Type 0
 SpellsChars text [] = text ≡ []
-SpellsChars text (c ∷ cs) = (how : How) × (first rest : List ℕ) × (text ≡ first ++ rest) × SpellsAs how first c × SpellsChars rest cs
+SpellsChars text (c ∷ cs) = (how : How) × (first rest : List ℕ) × (text ≡ first ++ rest) × SpellsAs how first c
+    × SpellsChars rest cs
 
 abbrev pub SpellsToken : List ℕ → Token → Type 0
 SpellsToken text token.OpenList = text ≡ codes "["
@@ -64,7 +68,7 @@ SpellsToken text token.False = text ≡ codes "false"
 SpellsToken text (token.Number number) = (text ≡ number) × IsNumber number
 SpellsToken text (token.Str string) = (inner : List ℕ) × (text ≡ 34 ∷ inner ++ 34 ∷ []) × SpellsChars inner string
 
--- a text is tokens one behind the other, with blanks before, between and behind them
+-- a text is tokens one after the other, with blanks before, between and after them
 abbrev pub Cuts : List ℕ → List Token → Type 0
 Cuts text [] = AreBlanks text
 Cuts text (first ∷ others) = (blanks piece rest : List ℕ) × (text ≡ blanks ++ (piece ++ rest))

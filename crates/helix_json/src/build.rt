@@ -3,9 +3,9 @@
 ghost use Rattle.std.specs.Prelude.{◌≡◌, List, [], ◌∷◌, IfOk, Some, IsSome};
 ghost use Rattle.helix_json.specs.declared.build.Frame.{Frame as Kept};
 ghost use Rattle.helix_json.specs.Tokens.{tokens as tokens_of};
-ghost use Rattle.helix_json.specs.Rules.{AreTokens};
-ghost use Rattle.helix_json.specs.Machine.{step, value_step, first_item, first_key, after, in_list, in_object};
-ghost use Rattle.helix_json.specs.Building.{reading_of, frames_of};
+ghost use Rattle.helix_json.specs.Inner.Rules.{AreTokens};
+ghost use Rattle.helix_json.specs.Inner.Machine.{step, value_step, first_item, first_key, after, in_list, in_object};
+ghost use Rattle.helix_json.specs.Inner.Building.{reading_of, frames_of};
 
 use crate::token::Token;
 use crate::value::{Items, Json, Member, Members};
@@ -46,10 +46,11 @@ pub fn build(alloc: Global, tokens: Vec<Token>) -> Result<Json, Memory>
     }
 }
 
-/// What comes next behind a token.
+/// What comes next after a token.
 fn advance(alloc: Global, next: Next, frames: &mut Vec<Frame>, token: Token) -> Result<Next, Memory>
     requires { IsSome (step (reading_of next frames.old.items) token) }
-    ensures { IfOk result (λ then. step (reading_of next frames.old.items) token ≡ Some (reading_of then frames.new.items)) }
+    ensures { IfOk result (λ then. step (reading_of next frames.old.items) token
+        ≡ Some (reading_of then frames.new.items)) }
 {
     match next {
         Next::Value => Ok(begin_value(token)),
@@ -67,7 +68,7 @@ fn advance(alloc: Global, next: Next, frames: &mut Vec<Frame>, token: Token) -> 
     }
 }
 
-/// What comes next behind the first token of a value.
+/// What comes next after the first token of a value.
 fn begin_value(token: Token) -> Next
     requires { IsSome (value_step [] token) }
     ensures { (frames : List Kept) → value_step (frames_of frames) token ≡ Some (reading_of result frames) }
@@ -84,11 +85,12 @@ fn begin_value(token: Token) -> Next
     }
 }
 
-/// What comes next behind the first token of a list's first item, or behind the end of a list
+/// What comes next after the first token of a list's first item, or after the end of a list
 /// with no item.
 fn begin_item(alloc: Global, frames: &mut Vec<Frame>, token: Token) -> Result<Next, Memory>
     requires { IsSome (step (first_item []) token) }
-    ensures { IfOk result (λ then. step (first_item (frames_of frames.old.items)) token ≡ Some (reading_of then frames.new.items)) }
+    ensures { IfOk result (λ then. step (first_item (frames_of frames.old.items)) token
+        ≡ Some (reading_of then frames.new.items)) }
 {
     match token {
         Token::CloseList => Ok(Next::After(Json::List(Items::new(alloc)))),
@@ -99,7 +101,7 @@ fn begin_item(alloc: Global, frames: &mut Vec<Frame>, token: Token) -> Result<Ne
     }
 }
 
-/// What comes next behind an object's first key, or behind the end of an object with no member.
+/// What comes next after an object's first key, or after the end of an object with no member.
 fn begin_member(alloc: Global, token: Token) -> Next
     requires { IsSome (step (first_key []) token) }
     ensures { (frames : List Kept) → step (first_key (frames_of frames)) token ≡ Some (reading_of result frames) }
@@ -111,10 +113,11 @@ fn begin_member(alloc: Global, token: Token) -> Next
     }
 }
 
-/// What comes next behind the token that stands behind a value.
+/// What comes next after the token after a value.
 fn end_value(value: Json, frames: &mut Vec<Frame>, token: Token) -> Result<Next, Memory>
     requires { IsSome (step (after value (frames_of frames.old.items)) token) }
-    ensures { IfOk result (λ then. step (after value (frames_of frames.old.items)) token ≡ Some (reading_of then frames.new.items)) }
+    ensures { IfOk result (λ then. step (after value (frames_of frames.old.items)) token
+        ≡ Some (reading_of then frames.new.items)) }
 {
     match frames.pop() {
         Some(Frame::List(items)) => end_item(items, value, frames, token),
@@ -123,7 +126,7 @@ fn end_value(value: Json, frames: &mut Vec<Frame>, token: Token) -> Result<Next,
     }
 }
 
-/// What comes next behind the token that stands behind an item of a list.
+/// What comes next after the token after an item of a list.
 fn end_item(
     mut items: Items,
     item: Json,
@@ -131,7 +134,8 @@ fn end_item(
     token: Token,
 ) -> Result<Next, Memory>
     requires { IsSome (step (after item (in_list items ∷ [])) token) }
-    ensures { IfOk result (λ then. step (after item (in_list items ∷ frames_of frames.old.items)) token ≡ Some (reading_of then frames.new.items)) }
+    ensures { IfOk result (λ then. step (after item (in_list items ∷ frames_of frames.old.items)) token
+        ≡ Some (reading_of then frames.new.items)) }
 {
     items.push(item)?;
     match token {
@@ -144,11 +148,12 @@ fn end_item(
     }
 }
 
-/// What comes next behind the token that stands behind a member of an object.
+/// What comes next after the token after a member of an object.
 fn end_member(mut members: Members, member: Member, token: Token) -> Result<Next, Memory>
     requires { IsSome (step (after member.value (in_object members member.key ∷ [])) token) }
     ensures { IfOk result (λ then. (frames : List Kept)
-        → step (after member.value (in_object members member.key ∷ frames_of frames)) token ≡ Some (reading_of then frames)) }
+        → step (after member.value (in_object members member.key ∷ frames_of frames)) token
+        ≡ Some (reading_of then frames)) }
 {
     members.push(member)?;
     match token {

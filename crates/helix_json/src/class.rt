@@ -1,7 +1,7 @@
 //! What a character between tokens begins.
 
 ghost use Rattle.std.specs.Prelude.{◌≡◌};
-ghost use Rattle.helix_json.specs.Lexer.{class};
+ghost use Rattle.helix_json.specs.Inner.Lexer.{class};
 
 /// A structural character.
 #[derive(Clone, Copy, Debug)]
@@ -35,27 +35,27 @@ pub enum Class {
 pub fn class_of(code: u32) -> Class
     ensures { result ≡ class code }
 {
-    if code == 32 || code == 9 || code == 10 || code == 13 {
+    if code == ' ' as u32 || code == '\t' as u32 || code == '\n' as u32 || code == '\r' as u32 {
         Class::Blank
-    } else if code == 91 {
+    } else if code == '[' as u32 {
         Class::Mark(Mark::OpenList)
-    } else if code == 93 {
+    } else if code == ']' as u32 {
         Class::Mark(Mark::CloseList)
-    } else if code == 123 {
+    } else if code == '{' as u32 {
         Class::Mark(Mark::OpenObject)
-    } else if code == 125 {
+    } else if code == '}' as u32 {
         Class::Mark(Mark::CloseObject)
-    } else if code == 44 {
+    } else if code == ',' as u32 {
         Class::Mark(Mark::Comma)
-    } else if code == 58 {
+    } else if code == ':' as u32 {
         Class::Mark(Mark::Colon)
-    } else if code == 34 {
+    } else if code == '"' as u32 {
         Class::Quote
-    } else if code == 110 {
+    } else if code == 'n' as u32 {
         Class::Word(Word::Null)
-    } else if code == 116 {
+    } else if code == 't' as u32 {
         Class::Word(Word::True)
-    } else if code == 102 {
+    } else if code == 'f' as u32 {
         Class::Word(Word::False)
     } else {
         Class::Other

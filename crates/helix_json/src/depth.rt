@@ -2,25 +2,25 @@
 
 ghost use Rattle.std.specs.Prelude.{◌≡◌, ◌≤◌, [], ◌∷◌, IfSome, IfNone};
 ghost use Rattle.std.specs.Bool.{MatchBool};
-ghost use Rattle.helix_json.specs.Broken.{BeginsTooDeep, Opens, level_behind};
-ghost use Rattle.helix_json.specs.Rules.{IsFirstAt, HoldsNowhere};
+ghost use Rattle.helix_json.specs.Broken.{BeginsTooDeep, Opens, level_after};
+ghost use Rattle.helix_json.specs.Inner.Rules.{IsFirstAt, HoldsNowhere};
 
 use crate::token::Token;
 
-/// So many lists and objects may be open.
-const DEEPEST: u32 = 64;
+/// The greatest nesting of lists and objects.
+const MAX_DEPTH: u32 = 64;
 
-/// The number, from 0, of the first token that begins level 65.
+/// The index of the first token that begins level 65.
 pub fn first_too_deep(tokens: &[Token]) -> Option<usize>
     ensures some { IfSome result (IsFirstAt BeginsTooDeep tokens.now) }
     ensures none { IfNone result (HoldsNowhere BeginsTooDeep tokens.now) }
 {
     let mut level = 0;
     for (i, token) in tokens.iter().enumerate() {
-        if level == DEEPEST && opens(token) {
+        if level == MAX_DEPTH && opens(token) {
             return Some(i);
         }
-        level = level_behind(level, token);
+        level = level_after(level, token);
     }
     None
 }
@@ -35,10 +35,10 @@ fn opens(token: &Token) -> bool
     }
 }
 
-/// How many lists and objects are open behind a token.
-fn level_behind(level: u32, token: &Token) -> u32
+/// How many lists and objects are open after a token.
+fn level_after(level: u32, token: &Token) -> u32
     requires { level ≤ 64 }
-    ensures { result ≡ level_behind level (token.now ∷ []) }
+    ensures { result ≡ level_after level (token.now ∷ []) }
 {
     match token {
         Token::OpenList | Token::OpenObject => level + 1,

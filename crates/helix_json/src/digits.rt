@@ -2,7 +2,7 @@
 
 ghost use Rattle.std.specs.Prelude.{◌≡◌, IsTrue, ◌↔◌, drop};
 ghost use Rattle.helix_json.specs.Numbers.{IsNumber};
-ghost use Rattle.helix_json.specs.NumberSteps.{kind_of, number_step, number_ends, accepts};
+ghost use Rattle.helix_json.specs.Inner.NumberSteps.{kind_of, number_step, number_ends, accepts};
 
 use helix_base::Text;
 
@@ -18,8 +18,8 @@ pub enum NumberCharacter {
     Other,
 }
 
-/// What of a number has been read: nothing, its minus, a zero in front, digits, the point, digits
-/// behind it, the mark of the exponent, its sign, its digits.
+/// What of a number has been read: nothing, its minus, a leading zero, digits, the point, digits
+/// after it, the mark of the exponent, its sign, its digits.
 #[derive(Clone, Copy, Debug)]
 pub enum NumberState {
     Nothing,
@@ -36,17 +36,17 @@ pub enum NumberState {
 pub fn kind_of_code(code: u32) -> NumberCharacter
     ensures { result ≡ kind_of code }
 {
-    if code == 48 {
+    if code == '0' as u32 {
         NumberCharacter::Zero
-    } else if 49 <= code && code <= 57 {
+    } else if '1' as u32 <= code && code <= '9' as u32 {
         NumberCharacter::Digit
-    } else if code == 43 {
+    } else if code == '+' as u32 {
         NumberCharacter::Plus
-    } else if code == 45 {
+    } else if code == '-' as u32 {
         NumberCharacter::Minus
-    } else if code == 46 {
+    } else if code == '.' as u32 {
         NumberCharacter::Point
-    } else if code == 69 || code == 101 {
+    } else if code == 'E' as u32 || code == 'e' as u32 {
         NumberCharacter::Mark
     } else {
         NumberCharacter::Other

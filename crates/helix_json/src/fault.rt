@@ -3,7 +3,7 @@
 use helix_base::Memory;
 use thiserror::Error;
 
-/// The first broken rule, with its place as a byte's number from 0.
+/// The first broken rule, with its offset in bytes.
 #[derive(Clone, Copy, Debug, PartialEq, Eq, Error)]
 pub enum JsonFault {
     /// J1: there are more than 1,048,576 bytes.

@@ -1,9 +1,9 @@
-//! One string, number or word of a text, from its place on.
+//! One string, number or word of a text, from its offset on.
 
 ghost use Rattle.std.specs.Prelude.{◌≡◌, ◌≤◌, ◌<◌, length, IfOk, IsTrue};
 ghost use Rattle.std.specs.Str.{all_scalars};
-ghost use Rattle.helix_json.specs.Lexer.{word_rest};
-ghost use Rattle.helix_json.specs.Lexeme.{ReadsString, ReadsNumber, ReadsLetters};
+ghost use Rattle.helix_json.specs.Inner.Lexer.{word_rest};
+ghost use Rattle.helix_json.specs.Inner.Lexeme.{ReadsString, ReadsNumber, ReadsLetters};
 
 use crate::class::Word;
 use crate::digits::{NumberState, kind_of_code, next_number_state};
@@ -11,14 +11,14 @@ use crate::string::{StringMove, StringState, string_move};
 use helix_base::{Memory, Text};
 use std::alloc::Global;
 
-/// A string and the place behind it, or the place where no string goes on.
+/// A string and the offset after it, or the length of the longest viable prefix.
 #[derive(Debug, Drop)]
 pub enum StringRead {
     Closes(Text, usize),
     Stops(usize),
 }
 
-/// Reads the string whose characters stand from that place on, behind its opening quote.
+/// Reads the string whose characters begin at that offset, after its opening quote.
 pub fn read_string(alloc: Global, codes: &[u32], from: usize) -> Result<StringRead, Memory>
     requires scalars { IsTrue (all_scalars codes.now) }
     requires within { from ≤ length codes.now }
@@ -40,7 +40,7 @@ pub fn read_string(alloc: Global, codes: &[u32], from: usize) -> Result<StringRe
     Ok(StringRead::Stops(codes.len()))
 }
 
-/// What has been read of a number, and the place behind it, where it goes on from that place.
+/// What has been read of a number from that offset on, and the offset after it.
 pub fn read_number(codes: &[u32], from: usize, first: NumberState) -> (NumberState, usize)
     requires { from ≤ length codes.now }
     ensures { ReadsNumber codes.now from first result.0 result.1 }
@@ -55,7 +55,7 @@ pub fn read_number(codes: &[u32], from: usize, first: NumberState) -> (NumberSta
     (state, codes.len())
 }
 
-/// How many of the letters stand from that place on.
+/// How many of the letters are at that offset, one after the other.
 pub fn read_letters(codes: &[u32], from: usize, letters: &[u32]) -> usize
     requires { from ≤ length codes.now }
     ensures { ReadsLetters codes.now from letters.now result }
@@ -68,7 +68,7 @@ pub fn read_letters(codes: &[u32], from: usize, letters: &[u32]) -> usize
     letters.len()
 }
 
-/// The letters of a word behind its first.
+/// The letters of a word after its first.
 pub fn letters_of(word: Word) -> &'static [u32]
     ensures { result.now ≡ word_rest word }
 {

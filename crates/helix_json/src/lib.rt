@@ -1,5 +1,5 @@
 //! JSON text, read exactly: the one value that a text spells, or the first broken rule and its
-//! place.
+//! offset.
 #![tactic(auto)]
 
 mod build;
@@ -24,7 +24,7 @@ mod value;
 
 pub use digits::is_number;
 pub use fault::JsonFault;
-pub use laws::{numbers_of_a_value, one_value};
+pub use laws::{numbers_of_a_value, one_value, rules_of_a_value};
 pub use reader::read;
 pub use token::Token;
 pub use units::number_units;

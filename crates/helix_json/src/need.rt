@@ -1,7 +1,7 @@
 //! Which token may come next, whatever the values are.
 
 ghost use Rattle.std.specs.Prelude.{◌≡◌};
-ghost use Rattle.helix_json.specs.Need.{kind_of_token, need_step};
+ghost use Rattle.helix_json.specs.Inner.Need.{kind_of_token, need_step};
 
 use crate::token::Token;
 
@@ -45,7 +45,7 @@ pub enum Advance {
     Close,
 }
 
-/// What a token does behind others, inside of the innermost container.
+/// What a token does after others, inside of the innermost container.
 pub fn next_need(need: Need, innermost: Option<Container>, kind: TokenKind) -> Advance
     ensures { result ≡ need_step need innermost kind }
 {
@@ -65,13 +65,13 @@ pub fn next_need(need: Need, innermost: Option<Container>, kind: TokenKind) -> A
         (Need::FirstKey, TokenKind::CloseObject) => Advance::Close,
         (Need::FirstKey | Need::Key, TokenKind::Str) => Advance::Stay(Need::Colon),
         (Need::Colon, TokenKind::Colon) => Advance::Stay(Need::Value),
-        (Need::After, _) => behind_value(innermost, kind),
+        (Need::After, _) => after_value(innermost, kind),
         _ => Advance::Refuse,
     }
 }
 
-/// What a token does behind a value.
-fn behind_value(innermost: Option<Container>, kind: TokenKind) -> Advance
+/// What a token does after a value.
+fn after_value(innermost: Option<Container>, kind: TokenKind) -> Advance
     ensures { result ≡ need_step Need.After innermost kind }
 {
     match (innermost, kind) {

@@ -2,8 +2,8 @@
 
 ghost use Rattle.std.specs.Prelude.{◌≡◌, [], IfOk};
 ghost use Rattle.helix_json.specs.declared.need.Need.TheVariants as need_is;
-ghost use Rattle.helix_json.specs.Need.{IsLast};
-ghost use Rattle.helix_json.specs.Progress.{Allows};
+ghost use Rattle.helix_json.specs.Inner.Need.{IsLast};
+ghost use Rattle.helix_json.specs.Inner.Progress.{Allows};
 
 use crate::need::{Advance, Container, Need, TokenKind, next_need};
 use helix_base::Memory;
@@ -34,8 +34,8 @@ impl Nest {
         self.containers.last().copied()
     }
 
-    /// Whether a token of that kind may stand here. If so, what comes next is what may come
-    /// behind it.
+    /// Whether a token of that kind may come here. If so, what comes next is what may come
+    /// after it.
     pub fn allow(&mut self, kind: TokenKind) -> Result<bool, Memory>
         ensures { IfOk result (λ allowed. Allows self.old self.new kind allowed) }
     {

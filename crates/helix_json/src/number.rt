@@ -1,18 +1,13 @@
 //! Numbers as they are written, and their exact value.
 
 ghost use Rattle.std.specs.Prelude.{◌≡◌, ◌≢◌, ℕ, ℤ, ◌+◌, ◌*◌, ◌^◌, ◌%◌, ◌≤◌, ◌<◌, ◌++◌, ◌⊎◌, Bool, true, false, take, drop, length, nat_abs, min, IfSome, IfNone, IsTrue, ◌↔◌};
-ghost use Rattle.helix_json.specs.Numbers.{IsDigit, AreDigits, IsNumber, IsUnits, digits_value, digits_from, signed};
-ghost use Rattle.helix_json.specs.Pieces.{NoDigit, TakesSign, TakesFraction, TakesExponent, IsReduced, Unreachable};
+ghost use Rattle.helix_json.specs.Numbers.{IsNumber, IsUnits, digits_value, digits_from, signed};
+ghost use Rattle.helix_base.specs.Digits.{AreDigits};
+ghost use Rattle.helix_json.specs.Inner.Pieces.{NoDigit, TakesSign, TakesFraction, TakesExponent, IsReduced, Unreachable};
 
-use helix_base::Text;
+use helix_base::is_digit;
 
-fn is_digit(code: u32) -> bool
-    ensures { IsTrue result ↔ IsDigit code }
-{
-    48 <= code && code <= 57
-}
-
-/// The digits at the front, and what follows them.
+/// The digits at the beginning, and what follows them.
 pub fn split_digits(codes: &[u32]) -> (&[u32], &[u32])
     ensures whole { codes.now ≡ result.0.now ++ result.1.now }
     ensures digits { AreDigits result.0.now }
@@ -22,7 +17,7 @@ pub fn split_digits(codes: &[u32]) -> (&[u32], &[u32])
     codes.split_at(end)
 }
 
-/// How many digits stand at the front.
+/// The number of digits at the beginning.
 fn digits_end(codes: &[u32]) -> usize
     ensures within { result ≤ length codes.now }
     ensures digits { AreDigits (take result codes.now) }
@@ -36,22 +31,22 @@ fn digits_end(codes: &[u32]) -> usize
     codes.len()
 }
 
-/// Whether a minus stands at the front, and what follows.
+/// Whether the text begins with a minus, and what follows.
 pub fn split_sign(codes: &[u32]) -> (bool, &[u32])
     ensures { TakesSign codes.now result.0 result.1.now }
 {
-    if codes.len() > 0 && codes[0] == 45 {
+    if codes.len() > 0 && codes[0] == '-' as u32 {
         (true, &codes[1..])
     } else {
         (false, codes)
     }
 }
 
-/// The digits behind a point at the front, and what follows.
+/// The digits after a point at the beginning, and what follows.
 pub fn split_fraction(codes: &[u32]) -> (&[u32], &[u32])
     ensures { TakesFraction codes.now result.0.now result.1.now }
 {
-    if codes.len() > 0 && codes[0] == 46 {
+    if codes.len() > 0 && codes[0] == '.' as u32 {
         split_digits(&codes[1..])
     } else {
         codes.split_at(0)
@@ -65,9 +60,9 @@ pub fn split_exponent(codes: &[u32]) -> (bool, &[u32])
     if codes.len() < 2 {
         return (false, &codes[codes.len()..]);
     }
-    if codes[1] == 45 {
+    if codes[1] == '-' as u32 {
         (true, &codes[2..])
-    } else if codes[1] == 43 {
+    } else if codes[1] == '+' as u32 {
         (false, &codes[2..])
     } else {
         (false, &codes[1..])

@@ -1,7 +1,7 @@
 //! What of a text has been read, between two tokens.
 
 ghost use Rattle.std.specs.Prelude.{◌≡◌, ◌↔◌, [], ◌∷◌, ◌++◌, IsTrue, OnOk};
-ghost use Rattle.helix_json.specs.Progress.{IsWhole};
+ghost use Rattle.helix_json.specs.Inner.Progress.{IsWhole};
 ghost use Rattle.helix_json.specs.declared.need.Need.TheVariants as need_is;
 
 use crate::need::Need;
@@ -10,45 +10,44 @@ use crate::token::Token;
 use helix_base::Memory;
 use std::alloc::Global;
 
-/// The tokens so far with their places, and what may come behind them.
+/// The tokens so far with their offsets, and what may come after them.
 #[derive(Debug, Drop)]
 pub struct Progress {
     pub tokens: Vec<Token>,
-    pub places: Vec<usize>,
+    pub offsets: Vec<usize>,
     pub nest: Nest,
 }
 
-/// What a token or a blank does: reading goes on at a place, or so many characters are the longest
-/// front with which a text of the grammar begins.
+/// What a token or a blank does: reading goes on at an offset, or there is a syntax error at one.
 #[derive(Clone, Copy, Debug)]
 pub enum Step {
     On(usize),
-    Leaves(usize),
+    SyntaxError(usize),
 }
 
 impl Progress {
     /// Nothing has been read.
     pub fn new(alloc: Global) -> Progress
         ensures tokens { result.tokens.items ≡ [] }
-        ensures places { result.places.items ≡ [] }
+        ensures offsets { result.offsets.items ≡ [] }
         ensures need { result.nest.need ≡ need_is.Value }
         ensures containers { result.nest.containers.items ≡ [] }
     {
         Progress {
             tokens: Vec::new(alloc),
-            places: Vec::new(alloc),
+            offsets: Vec::new(alloc),
             nest: Nest::new(alloc),
         }
     }
 
-    /// Appends a token that begins at that place.
-    pub fn push(&mut self, token: Token, place: usize) -> Result<(), Memory>
+    /// Appends a token that begins at that offset.
+    pub fn push(&mut self, token: Token, offset: usize) -> Result<(), Memory>
         ensures tokens { OnOk result (self.new.tokens.items ≡ self.old.tokens.items ++ token ∷ []) }
-        ensures places { OnOk result (self.new.places.items ≡ self.old.places.items ++ place ∷ []) }
+        ensures offsets { OnOk result (self.new.offsets.items ≡ self.old.offsets.items ++ offset ∷ []) }
         ensures nest { OnOk result (self.new.nest ≡ self.old.nest) }
     {
         self.tokens.push(token)?;
-        self.places.push(place)?;
+        self.offsets.push(offset)?;
         Ok(())
     }
 

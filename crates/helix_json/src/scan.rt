@@ -1,12 +1,12 @@
-//! The tokens of a text, or the place where it leaves the grammar.
+//! The tokens of a text, or its syntax error.
 
 ghost use Rattle.std.specs.Prelude.{◌≡◌, ◌<◌, length, slice_index, IfOk, IsTrue};
 ghost use Rattle.std.specs.Str.{all_scalars};
 ghost use Rattle.helix_json.specs.declared.class.Class.TheVariants as class_is;
-ghost use Rattle.helix_json.specs.Lexer.{class, mark_token, word_token};
-ghost use Rattle.helix_json.specs.Need.{kind_of_token};
-ghost use Rattle.helix_json.specs.Progress.{HoldsAt, LeadsOn};
-ghost use Rattle.helix_json.specs.Scanned.{IsScan};
+ghost use Rattle.helix_json.specs.Inner.Lexer.{class, mark_token, word_token};
+ghost use Rattle.helix_json.specs.Inner.Need.{kind_of_token};
+ghost use Rattle.helix_json.specs.Inner.Progress.{HoldsAt, LeadsOn};
+ghost use Rattle.helix_json.specs.Inner.Scanned.{IsScan};
 
 use crate::class::{Class, Mark, Word, class_of};
 use crate::digits::{NumberState, is_end_of_number, kind_of_code, next_number_state};
@@ -18,8 +18,7 @@ use crate::token::Token;
 use helix_base::Memory;
 use std::alloc::Global;
 
-/// The tokens of a text that spells a value, or where it leaves the grammar. On `Err`, memory ran
-/// out.
+/// The tokens of a text that spells a value, or its syntax error. On `Err`, memory ran out.
 pub fn scan(alloc: Global, codes: &[u32]) -> Result<Scan, Memory>
     requires { IsTrue (all_scalars codes.now) }
     ensures { IfOk result (IsScan codes.now) }
@@ -29,20 +28,20 @@ pub fn scan(alloc: Global, codes: &[u32]) -> Result<Scan, Memory>
     while at < codes.len() {
         match read(alloc, codes, at, &mut progress)? {
             Step::On(next) => at = next,
-            Step::Leaves(count) => return Ok(Scan::Leaves(count)),
+            Step::SyntaxError(count) => return Ok(Scan::SyntaxError(count)),
         }
     }
     if progress.is_whole() {
         Ok(Scan::Tokens(Scanned {
             tokens: progress.tokens,
-            places: progress.places,
+            offsets: progress.offsets,
         }))
     } else {
-        Ok(Scan::Leaves(codes.len()))
+        Ok(Scan::SyntaxError(codes.len()))
     }
 }
 
-/// Reads the token or the blank at a place.
+/// Reads the token or the blank at an offset.
 fn read(alloc: Global, codes: &[u32], at: usize, progress: &mut Progress) -> Result<Step, Memory>
     requires scalars { IsTrue (all_scalars codes.now) }
     requires within { at < length codes.now }
@@ -53,7 +52,7 @@ fn read(alloc: Global, codes: &[u32], at: usize, progress: &mut Progress) -> Res
         Class::Blank => Ok(Step::On(at + 1)),
         Class::Mark(mark) => {
             if !progress.nest.allow(kind_of_mark(mark))? {
-                return Ok(Step::Leaves(at));
+                return Ok(Step::SyntaxError(at));
             }
             progress.push(token_of_mark(mark), at)?;
             Ok(Step::On(at + 1))
@@ -77,10 +76,10 @@ fn take_string(
     ensures { IfOk result (LeadsOn codes.now at progress.new) }
 {
     if !progress.nest.allow(TokenKind::Str)? {
-        return Ok(Step::Leaves(at));
+        return Ok(Step::SyntaxError(at));
     }
     match read_string(alloc, codes, at + 1)? {
-        StringRead::Stops(count) => Ok(Step::Leaves(count)),
+        StringRead::Stops(count) => Ok(Step::SyntaxError(count)),
         StringRead::Closes(text, end) => {
             progress.push(Token::Str(text), at)?;
             Ok(Step::On(end))
@@ -95,12 +94,12 @@ fn take_word(codes: &[u32], at: usize, word: Word, progress: &mut Progress) -> R
     ensures { IfOk result (LeadsOn codes.now at progress.new) }
 {
     if !progress.nest.allow(TokenKind::Scalar)? {
-        return Ok(Step::Leaves(at));
+        return Ok(Step::SyntaxError(at));
     }
     let letters = letters_of(word);
     let count = read_letters(codes, at + 1, letters);
     if count < letters.len() {
-        return Ok(Step::Leaves(at + 1 + count));
+        return Ok(Step::SyntaxError(at + 1 + count));
     }
     progress.push(token_of_word(word), at)?;
     Ok(Step::On(at + 1 + count))
@@ -119,14 +118,14 @@ fn take_number(
     ensures { IfOk result (LeadsOn codes.now at progress.new) }
 {
     let Some(first) = next_number_state(NumberState::Nothing, kind_of_code(codes[at])) else {
-        return Ok(Step::Leaves(at));
+        return Ok(Step::SyntaxError(at));
     };
     if !progress.nest.allow(TokenKind::Scalar)? {
-        return Ok(Step::Leaves(at));
+        return Ok(Step::SyntaxError(at));
     }
     let (state, end) = read_number(codes, at + 1, first);
     if !is_end_of_number(state) {
-        return Ok(Step::Leaves(end));
+        return Ok(Step::SyntaxError(end));
     }
     progress.push(Token::Number(text_of(alloc, &codes[at..end])?), at)?;
     Ok(Step::On(end))

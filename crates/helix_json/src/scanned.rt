@@ -2,18 +2,16 @@
 
 use crate::token::Token;
 
-/// The tokens of a text that spells a value, with the place of each, as a character's number from
-/// 0.
+/// The tokens of a text that spells a value, each with its offset in characters.
 #[derive(Debug, Drop)]
 pub struct Scanned {
     pub tokens: Vec<Token>,
-    pub places: Vec<usize>,
+    pub offsets: Vec<usize>,
 }
 
-/// The tokens, or how many characters are the longest front with which a text of the grammar
-/// begins.
+/// The tokens, or the offset of a syntax error: the length of the longest viable prefix.
 #[derive(Debug, Drop)]
 pub enum Scan {
     Tokens(Scanned),
-    Leaves(usize),
+    SyntaxError(usize),
 }

@@ -3,10 +3,10 @@
 ghost use Rattle.std.specs.Prelude.{◌≡◌, ◌≤◌, ◌<◌, Some, None};
 ghost use Rattle.std.specs.Char.{digit_value};
 ghost use Rattle.helix_json.specs.Text.{IsHigh, escaped};
-ghost use Rattle.helix_json.specs.StringSteps.{Fine, LowFine, plain_step, backslash_step, string_step, unit_step, low_step};
+ghost use Rattle.helix_json.specs.Inner.StringSteps.{Fine, LowFine, plain_step, backslash_step, string_step, unit_step, low_step};
 
 /// What of a character has been read: nothing, the backslash, `\u` and digits of the first unit, a
-/// high surrogate, the backslash behind it, `\u` and digits of the second unit.
+/// high surrogate, the backslash after it, `\u` and digits of the second unit.
 #[derive(Clone, Copy, Debug)]
 pub enum StringState {
     Plain,
@@ -33,68 +33,68 @@ pub enum StringMove {
 fn hex_value(code: u32) -> u32
     ensures { result ≡ digit_value code }
 {
-    if code < 48 {
+    if code < '0' as u32 {
         36
-    } else if code < 58 {
-        code - 48
-    } else if code < 65 {
+    } else if code <= '9' as u32 {
+        code - '0' as u32
+    } else if code < 'A' as u32 {
         36
-    } else if code < 91 {
-        code - 55
-    } else if code < 97 {
+    } else if code <= 'Z' as u32 {
+        code - 'A' as u32 + 10
+    } else if code < 'a' as u32 {
         36
-    } else if code < 123 {
-        code - 87
+    } else if code <= 'z' as u32 {
+        code - 'a' as u32 + 10
     } else {
         36
     }
 }
 
-/// The character that a letter behind a backslash stands for.
+/// The character that a letter after a backslash means.
 fn escape(letter: u32) -> Option<u32>
     ensures { result ≡ escaped letter }
 {
-    if letter == 34 {
-        Some(34)
-    } else if letter == 92 {
-        Some(92)
-    } else if letter == 47 {
-        Some(47)
-    } else if letter == 98 {
-        Some(8)
-    } else if letter == 102 {
-        Some(12)
-    } else if letter == 110 {
-        Some(10)
-    } else if letter == 114 {
-        Some(13)
-    } else if letter == 116 {
-        Some(9)
+    if letter == '"' as u32 {
+        Some('"' as u32)
+    } else if letter == '\\' as u32 {
+        Some('\\' as u32)
+    } else if letter == '/' as u32 {
+        Some('/' as u32)
+    } else if letter == 'b' as u32 {
+        Some('\u{8}' as u32)
+    } else if letter == 'f' as u32 {
+        Some('\u{c}' as u32)
+    } else if letter == 'n' as u32 {
+        Some('\n' as u32)
+    } else if letter == 'r' as u32 {
+        Some('\r' as u32)
+    } else if letter == 't' as u32 {
+        Some('\t' as u32)
     } else {
         None
     }
 }
 
-/// A character where one of the string, its end or a backslash may stand.
+/// A character where one of the string, its end or a backslash may come.
 fn plain_move(code: u32) -> StringMove
     ensures { result ≡ plain_step code }
 {
-    if code == 34 {
+    if code == '"' as u32 {
         StringMove::Close
-    } else if code == 92 {
+    } else if code == '\\' as u32 {
         StringMove::Go(StringState::Backslash)
-    } else if code < 32 {
+    } else if code < ' ' as u32 {
         StringMove::Refuse
     } else {
         StringMove::Give(code)
     }
 }
 
-/// A character behind a backslash.
+/// A character after a backslash.
 fn backslash_move(code: u32) -> StringMove
     ensures { result ≡ backslash_step code }
 {
-    if code == 117 {
+    if code == 'u' as u32 {
         return StringMove::Go(StringState::Unit {
             digits: 0,
             value: 0,
@@ -165,14 +165,14 @@ pub fn string_move(state: StringState, code: u32) -> StringMove
         StringState::Backslash => backslash_move(code),
         StringState::Unit { digits, value } => unit_move(digits, value, hex_value(code)),
         StringState::High { high } => {
-            if code == 92 {
+            if code == '\\' as u32 {
                 StringMove::Go(StringState::HighBackslash { high })
             } else {
                 StringMove::Refuse
             }
         }
         StringState::HighBackslash { high } => {
-            if code == 117 {
+            if code == 'u' as u32 {
                 StringMove::Go(StringState::Low {
                     high,
                     digits: 0,

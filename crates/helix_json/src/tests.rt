@@ -1,7 +1,10 @@
 mod reader;
+mod rules;
 mod scan;
+mod scanned;
+mod shown;
 
-use crate::{is_number, number_units, numbers_of_a_value, one_value};
+use crate::{is_number, number_units, numbers_of_a_value, one_value, rules_of_a_value};
 use helix_base::Text;
 use std::test::Fail;
 
@@ -58,6 +61,7 @@ fn numbers_have_their_exact_units(rt: HostRuntime) -> Result<(), Fail> {
 fn numbers_are_told_from_other_texts(rt: HostRuntime) -> Result<(), Fail> {
     one_value();
     numbers_of_a_value();
+    rules_of_a_value();
     let cases = [
         ("0", true),
         ("-0.0e+0", true),

@@ -3,8 +3,10 @@ use Rattle.std.proofs.Common.{◌≡◌, ◌≢◌, ℕ, zero, suc, ◌+◌, ◌
 use Rattle.std.proofs.lemmas.Bool.Decides.{nat_tests}
 use Rattle.std.proofs.lemmas.Fmt.{decimal_by_steps_wide}
 use Rattle.std.proofs.Math.Arith.{mod-mul}
-use Rattle.helix_json.specs.Numbers.{AreDigits, IsWhole, digits_from, digits_value}
-use Rattle.helix_json.proofs.Decimal.{digits_push, from-append, pow_more, some_power}
+use Rattle.helix_json.specs.Numbers.{IsWhole, digits_from, digits_value}
+use Rattle.helix_base.specs.Digits.{AreDigits}
+use Rattle.helix_base.specs.Inner.DigitLaws.{digit_within, digits_push}
+use Rattle.helix_json.specs.Inner.DecimalLaws.{from-append, pow_more, some_power}
 use Rattle.helix_texts.specs.Texts.{last_digits, kept, without_zeros}
 
 -- the digits of a number from 10 on don't begin with 0, and there is one below
@@ -26,7 +28,7 @@ begins_more n (d ∷ ds) c large begins = ((λ some. begins.0 (omega arith)), λ
 
 one_more : (n : ℕ) (ds : List ℕ) → 10 ≤ n → IsNumeralOf (n / 10) ds → IsNumeralOf n (ds ++ (48 + n % 10) ∷ [])
 one_more n ds large front = record {
-  digits = digits_push ds (48 + n % 10) front.digits (omega arith, omega arith);
+  digits = digits_push ds (48 + n % 10) front.digits (digit_within _ (omega arith) (omega arith));
   value = from-append 0 ds ((48 + n % 10) ∷ []) ∙ omega (arith, front.value);
   begins = begins_more n ds (48 + n % 10) large front.begins;
 }
@@ -57,7 +59,7 @@ last_digits-suc width n = refl
 pub last_digits_are : (width n : ℕ) → AreDigits (last_digits width n)
 unfolding last_digits
 last_digits_are zero n = tt
-last_digits_are (suc width) n = digits_push (last_digits width (n / 10)) (48 + n % 10) (last_digits_are width (n / 10)) (omega arith, omega arith)
+last_digits_are (suc width) n = digits_push (last_digits width (n / 10)) (48 + n % 10) (last_digits_are width (n / 10)) (digit_within _ (omega arith) (omega arith))
 
 -- so many digits add the remainder to what stands before them
 pub last_digits-from : (width x n : ℕ) → digits_from x (last_digits width n) ≡ x * 10 ^ width + n % 10 ^ width

@@ -2,7 +2,7 @@
 use Rattle.std.proofs.Common.{◌≡◌, ◌≢◌, ℕ, zero, suc, ◌+◌, ◌-◌, ◌*◌, ◌/◌, ◌%◌, ◌^◌, ◌<◌, ◌≤◌, List, [], ◌∷◌, ◌++◌, length, inl, inr, refl, sym, ap, ◌∙◌, arith}
 use Rattle.std.proofs.Common.{decimal}
 use Rattle.std.proofs.lemmas.Fmt.{length-decimal-le_wide}
-use Rattle.helix_json.proofs.Decimal.{pow_more}
+use Rattle.helix_json.specs.Inner.DecimalLaws.{pow_more}
 use Rattle.helix_texts.specs.Texts.{last_digits, kept, without_zeros}
 use Rattle.helix_texts.proofs.DecimalTexts.{kept_cases, last_digits-suc}
 

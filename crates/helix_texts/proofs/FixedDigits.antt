@@ -5,7 +5,7 @@ use Rattle.std.proofs.Math.ListN.{set, take}
 use Rattle.std.proofs.Math.Seq.{take-set-lt}
 use Rattle.std.proofs.lemmas.List.{set-append_left, length-take, take_more_set, append-nil}
 use Rattle.std.proofs.Math.Nat.{div-div-eq-div-mul}
-use Rattle.helix_json.proofs.Decimal.{pow_more}
+use Rattle.helix_json.specs.Inner.DecimalLaws.{pow_more}
 use Rattle.helix_json.specs.Numbers.{digits_from}
 use Rattle.helix_texts.specs.Texts.{last_digits}
 use Rattle.helix_texts.proofs.DecimalTexts.{last_digits-from}

@@ -2,9 +2,10 @@
 use Rattle.std.proofs.Common.{◌≡◌, ℕ, ◌-◌, ◌*◌, ◌/◌, ◌%◌, ◌^◌, ◌<◌, ◌≤◌, ℤ, pos, negsuc, List, [], ◌∷◌, ◌++◌, length, append_assoc, Bool, true, false, inl, inr, refl, sym, ap, ◌∙◌, arith}
 use Rattle.std.proofs.lemmas.Int.{ints}
 use Rattle.std.proofs.lemmas.List.{append-nil}
-use Rattle.helix_json.specs.Numbers.{AreDigits, fraction_text, digits_value}
-use Rattle.helix_json.specs.Pieces.{NoDigit}
-use Rattle.helix_json.proofs.Parts.{digits_unique}
+use Rattle.helix_json.specs.Numbers.{fraction_text, digits_value}
+use Rattle.helix_base.specs.Digits.{AreDigits}
+use Rattle.helix_json.specs.Inner.Pieces.{NoDigit}
+use Rattle.helix_json.specs.Inner.PartsLaws.{digits_unique}
 use Rattle.helix_values.specs.declared.kind.Kind.TheVariants as kind
 use Rattle.helix_ladders.specs.Calendar.{IsDate, IsMoment, year_of, month_of, day_of_month, day_number, day_of, midnight, millis_of_day}
 use Rattle.helix_ladders.specs.Grids.{IsMultipleOf}

@@ -1,10 +1,12 @@
 -- The written form of a number spells it, and a text spells one number at most.
 use Rattle.std.proofs.Common.{◌≡◌, ◌≢◌, ℕ, ◌+◌, ◌*◌, ◌/◌, ◌%◌, ◌^◌, ◌≤◌, ℤ, pos, negsuc, List, [], ◌∷◌, ◌++◌, length, Bool, true, false, inl, inr, decimal, refl, sym, ap, ◌∙◌, subst, arith}
 use Rattle.std.specs.Prelude.{unsigned_abs}
-use Rattle.helix_json.specs.Numbers.{IsDigit, AreDigits, IsWhole, Parts, SpellsNumber, Exponent, no_exponent, power, plus, minus, no_sign, IsExponent, fraction_text, exponent_text, minus_text, digits_from, digits_value, HasUnits, signed, IsUnits}
-use Rattle.helix_json.specs.Pieces.{NoDigit, TakesSign, TakesFraction, TakesExponent, Found, AreUnits}
-use Rattle.helix_json.proofs.Decimal.{from-append, cancel}
-use Rattle.helix_json.proofs.Parts.{parts_found, units_found}
+use Rattle.helix_json.specs.Numbers.{IsWhole, Parts, SpellsNumber, Exponent, no_exponent, power, plus, minus, no_sign, IsExponent, fraction_text, exponent_text, minus_text, digits_from, digits_value, HasUnits, signed, IsUnits}
+use Rattle.helix_base.specs.Digits.{AreDigits}
+use Rattle.helix_base.specs.Inner.DigitLaws.{digit_bounds}
+use Rattle.helix_json.specs.Inner.Pieces.{NoDigit, TakesSign, TakesFraction, TakesExponent, Found, AreUnits}
+use Rattle.helix_json.specs.Inner.DecimalLaws.{from-append, cancel}
+use Rattle.helix_json.specs.Inner.PartsLaws.{parts_found, units_found}
 use Rattle.std.proofs.lemmas.Nat.{pow-add}
 use Rattle.std.proofs.lemmas.List.{append-nil}
 use Rattle.helix_texts.specs.Texts.{last_digits, without_zeros, is_negative, one, number_text}
@@ -83,7 +85,7 @@ no_point (power mark sign digits) is more begins =
 sign_taken : (negative : Bool) (whole behind : List ℕ) → IsWhole whole → TakesSign (minus_text negative ++ (whole ++ behind)) negative (whole ++ behind)
 sign_taken true whole behind is = refl
 sign_taken false [] behind is = absurd is
-sign_taken false (c ∷ cs) behind is = (refl, λ more begins. let m : c ≡ 45 = cc in let d : IsDigit c = is.0 in omega arith)
+sign_taken false (c ∷ cs) behind is = (refl, λ more begins. let m : c ≡ 45 = cc in let d : (48 ≤ c) × (c ≤ 57) = digit_bounds c is.0 in omega arith)
 
 fraction_taken : (fraction : List ℕ) (e : Exponent) → AreDigits fraction → IsExponent e → TakesFraction (fraction_text fraction ++ exponent_text e) fraction (exponent_text e)
 fraction_taken [] e digits is = ((λ more begins. absurd (no_point e is more begins)), λ none. (refl, refl))
@@ -106,7 +108,7 @@ exponent_taken (power mark plus ds) is = ((λ e. omega arith), ((λ e. refl), λ
 exponent_taken (power mark minus ds) is = (refl, refl)
 exponent_taken (power mark no_sign []) is = absurd (is.1 refl)
 exponent_taken (power mark no_sign (d ∷ ds)) is =
-    let k : IsDigit d = is.2.0 in
+    let k : (48 ≤ d) × (d ≤ 57) = digit_bounds d is.2.0 in
     ((λ e. omega arith), ((λ e. absurd (omega arith)), λ ne. refl))
 
 found : (text : List ℕ) (p q : Parts) → SpellsNumber text p → SpellsNumber text q → Found q p.negative p.whole p.fraction (lowers_of p.exponent) (digits_of p.exponent)

@@ -1,23 +1,16 @@
 -- What is found at the front of a text is all that stands there.
-use Rattle.std.proofs.Common.{◌≡◌, ℕ, ◌+◌, ◌-◌, ◌*◌, ◌/◌, ◌%◌, ◌^◌, ◌<◌, ◌≤◌, List, [], ◌∷◌, ◌++◌, length, length-append, get_or, take, append_assoc, true, sym, ap, ◌∙◌, subst, arith}
+use Rattle.std.proofs.Common.{IsTrue, ◌≡◌, ℕ, ◌+◌, ◌-◌, ◌*◌, ◌/◌, ◌%◌, ◌^◌, ◌<◌, ◌≤◌, List, [], ◌∷◌, ◌++◌, length, length-append, get_or, take, append_assoc, true, sym, ap, ◌∙◌, subst, arith}
 use Rattle.std.proofs.Common.{add-one}
 use Rattle.std.proofs.lemmas.List.{take_more}
-use Rattle.helix_json.specs.Numbers.{IsDigit, AreDigits}
-use Rattle.helix_json.proofs.Decimal.{digit_at, pow_more}
+use Rattle.helix_base.specs.Digits.{is_digit, AreDigits}
+use Rattle.helix_base.specs.Inner.DigitLaws.{digit_at}
+use Rattle.helix_json.specs.Inner.DecimalLaws.{pow_more}
 use Rattle.std.proofs.lemmas.Bool.Decides.{nat_tests}
-use Rattle.helix_values.specs.Codes.{is_digit}
 use Rattle.helix_texts.specs.Texts.{last_digits}
 use Rattle.helix_texts.specs.Reading.{BeginsWithNumber, BeginsWithPart, BeginsWithThree, BeginsWithDate}
 use Rattle.helix_texts.proofs.DecimalTexts.{last_digits-suc, last_digits_are}
 use Rattle.helix_texts.proofs.FixedDigits.{length-last_digits, same_fronts, same_numbers}
 use Rattle.helix_texts.proofs.MomentTexts.{AreSameThrees, same_threes, small_date}
-
--- the test for a digit, as a fact
-pub digit_from : (c : ℕ) → is_digit c ≡ true → IsDigit c
-digit_from c is = grind (arith, nat_tests)
-
-pub digit_test : (c : ℕ) → IsDigit c → is_digit c ≡ true
-digit_test c digit = grind (arith, nat_tests)
 
 -- one digit more
 pub digit_behind : (list : List ℕ) (i n d : ℕ) → take i list ≡ last_digits i n → i < length list → d ≡ get_or list i 0 → 48 ≤ d → d ≤ 57 → take (i + 1) list ≡ last_digits (i + 1) (n * 10 + (d - 48))
@@ -34,7 +27,7 @@ pub number_small : (i n d : ℕ) → n < 10 ^ i → d ≤ 57 → n * 10 + (d - 4
 number_small i n d small high = omega (arith, pow_more i)
 
 -- another character is in no number
-pub no_number : (list : List ℕ) (i n : ℕ) → i < length list → (IsDigit (get_or list i 0) → ⊥) → list ≡ last_digits (length list) n → ⊥
+pub no_number : (list : List ℕ) (i n : ℕ) → i < length list → (IsTrue (is_digit (get_or list i 0)) → ⊥) → list ≡ last_digits (length list) n → ⊥
 no_number list i n within other all = other (digit_at list i within (subst AreDigits (sym all) (last_digits_are (length list) n)))
 
 pub too_short : (codes : List ℕ) (width n : ℕ) (rest : List ℕ) → length codes < width → BeginsWithNumber codes width n rest → ⊥

@@ -3,8 +3,10 @@ use Rattle.std.proofs.Common.{◌≡◌, ℕ, ◌+◌, ◌-◌, ◌*◌, ◌^◌
 use Rattle.std.proofs.Common.{append-nil}
 use Rattle.std.proofs.Math.Nat.{mod-eq_of_lt, mul-le-mul_right}
 use Rattle.std.proofs.lemmas.Nat.{pow-add}
-use Rattle.helix_json.specs.Numbers.{IsDigit, AreDigits, digits_value, fraction_text}
-use Rattle.helix_json.proofs.Decimal.{digit_at, some_power}
+use Rattle.helix_json.specs.Numbers.{digits_value, fraction_text}
+use Rattle.helix_base.specs.Digits.{AreDigits}
+use Rattle.helix_base.specs.Inner.DigitLaws.{bounds_at}
+use Rattle.helix_json.specs.Inner.DecimalLaws.{some_power}
 use Rattle.helix_ladders.specs.Calendar.{IsDate}
 use Rattle.helix_texts.specs.Texts.{last_digits, clock_text}
 use Rattle.helix_texts.specs.Reading.{IsClock, BeginsWithThree, BeginsWithDate, TakesZulu, IsTimeEnd, CountsTimeEnd, IsTimeBehind, CountsTime}
@@ -45,7 +47,7 @@ no_end (c ∷ cs) [] digits same = absurd (let e : c ∷ cs ≡ [] = cc in cc)
 no_end (c ∷ cs) (d ∷ front) digits same =
     let behind : c ∷ cs ≡ front ++ 90 ∷ [] = cc in
     let within : length front < length (c ∷ cs) = omega (arith, ap length behind, length-append front (90 ∷ [])) in
-    let digit : IsDigit (get_or (c ∷ cs) (length front) 0) = digit_at (c ∷ cs) (length front) within digits in
+    let digit = bounds_at (c ∷ cs) (length front) within digits in
     omega (arith, digit.1, ap (λ l. get_or l (length front) 0) behind, get_behind front 90)
 
 pub end_front : (text front fraction : List ℕ) (zulu : Bool) → TakesZulu text front → IsTimeEnd text fraction zulu → front ≡ fraction_text fraction

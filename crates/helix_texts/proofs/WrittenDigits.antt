@@ -2,8 +2,8 @@
 use Rattle.std.proofs.Common.{◌≡◌, ℕ, zero, suc, ◌+◌, ◌-◌, ◌*◌, ◌/◌, ◌%◌, ◌^◌, ◌<◌, ◌≤◌, List, [], ◌∷◌, ◌++◌, length, refl, sym, ap, ◌∙◌, arith}
 use Rattle.std.proofs.Math.Nat.{mod-eq_of_lt, mul-le-mul_right}
 use Rattle.std.proofs.lemmas.Nat.{div-mul-add}
-use Rattle.helix_json.specs.Numbers.{AreDigits}
-use Rattle.helix_json.proofs.Decimal.{pow_more}
+use Rattle.helix_base.specs.Digits.{AreDigits}
+use Rattle.helix_json.specs.Inner.DecimalLaws.{pow_more}
 use Rattle.helix_texts.specs.Texts.{last_digits}
 use Rattle.helix_texts.proofs.DecimalTexts.{last_digits-zero}
 use Rattle.helix_texts.proofs.FixedDigits.{last_digits-front}

@@ -1,6 +1,7 @@
--- What the parts of `moment_of` promise each other. Only the crate's private clauses cite it.
+-- What the parts of `moment_of` promise each other.
 use Rattle.std.specs.Prelude.{◌≡◌, ◌≢◌, ◌⊎◌, ℕ, ◌^◌, ◌<◌, ◌≤◌, Bool, List, [], ◌∷◌, ◌++◌, length}
-use Rattle.helix_json.specs.Numbers.{AreDigits, fraction_text}
+use Rattle.helix_json.specs.Numbers.{fraction_text}
+use Rattle.helix_base.specs.Digits.{AreDigits}
 use Rattle.helix_ladders.specs.Calendar.{IsDate}
 use Rattle.helix_texts.specs.Texts.{last_digits, date_text}
 use Rattle.helix_texts.specs.Spelling.{Time, IsTime, zulu_text, full_time_text, thousandths, millis_of_time}

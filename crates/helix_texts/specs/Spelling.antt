@@ -1,6 +1,7 @@
 -- The texts that spell a value, beside its written form: every JSON number of the same value, and every moment text.
 use Rattle.std.specs.Prelude.{◌≡◌, ◌⊎◌, ℕ, ◌+◌, ◌-◌, ◌*◌, ◌^◌, ◌<◌, ◌≤◌, ℤ, pos, Bool, true, false, List, [], ◌∷◌, ◌++◌, length}
-use Rattle.helix_json.specs.Numbers.{AreDigits, IsUnits, digits_value, fraction_text}
+use Rattle.helix_json.specs.Numbers.{IsUnits, digits_value, fraction_text}
+use Rattle.helix_base.specs.Digits.{AreDigits}
 use Rattle.helix_values.specs.declared.kind.Kind.{Kind}
 use Rattle.helix_values.specs.declared.cell.Cell.{Cell}
 use Rattle.helix_values.specs.declared.cell.Cell.TheVariants as cell

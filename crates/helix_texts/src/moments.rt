@@ -6,9 +6,8 @@ ghost use Rattle.helix_texts.specs.Reading.{IsClock, BeginsWithNumber, BeginsWit
 ghost use Rattle.helix_texts.specs.Spelling.{SpellsMoment, Time};
 ghost use Rattle.helix_texts.specs.Texts.{last_digits};
 
-use helix_base::Text;
+use helix_base::{Text, is_digit};
 use helix_ladders::{Date, day_number, days_of_month, midnight, power_of_ten};
-use helix_values::is_digit;
 
 /// Three numbers with a mark between them.
 #[derive(Clone, Copy)]

@@ -1,66 +1,19 @@
+use super::scanned::shown;
 use crate::scan::scan;
-use crate::scanned::{Scan, Scanned};
-use crate::token::Token;
+use crate::scanned::Scan;
 use helix_base::{Memory, Text};
 use std::alloc::Global;
 use std::test::Fail;
 
-/// The place of each token and its text, a string between `'` and a number behind `#`; or where the
-/// text leaves the grammar.
-fn shown(alloc: Global, text: &str) -> Result<String, Memory> {
-    let codes = Text::of(alloc, text)?;
-    match scan(alloc, codes.codes())? {
-        Scan::Leaves(count) => Ok(format!(in alloc; "leaves {count}")?),
-        Scan::Tokens(scanned) => spelled(alloc, &scanned),
-    }
-}
-
-fn spelled(alloc: Global, scanned: &Scanned) -> Result<String, Memory> {
-    let mut all = String::new(alloc);
-    for (token, place) in scanned.tokens.iter().zip(scanned.places.iter()) {
-        let number = format!(in alloc; "{place}")?;
-        all.push_str(number.as_str())?;
-        push_token(alloc, &mut all, token)?;
-        all.push_str(" ")?;
-    }
-    Ok(all)
-}
-
-fn push_token(alloc: Global, all: &mut String, token: &Token) -> Result<(), Memory> {
-    match token {
-        Token::OpenList => all.push_str("[")?,
-        Token::CloseList => all.push_str("]")?,
-        Token::OpenObject => all.push_str("{")?,
-        Token::CloseObject => all.push_str("}")?,
-        Token::Comma => all.push_str(",")?,
-        Token::Colon => all.push_str(":")?,
-        Token::Null => all.push_str("null")?,
-        Token::True => all.push_str("true")?,
-        Token::False => all.push_str("false")?,
-        Token::Number(text) => {
-            let written = text.written(alloc)?;
-            all.push_str("#")?;
-            all.push_str(written.as_str())?;
-        }
-        Token::Str(text) => {
-            let written = text.written(alloc)?;
-            all.push_str("'")?;
-            all.push_str(written.as_str())?;
-            all.push_str("'")?;
-        }
-    }
-    Ok(())
-}
-
-/// How many tokens a text has, and how many characters where it leaves the grammar.
+/// How many tokens a text has, and the offset of its syntax error.
 fn counted(alloc: Global, text: &Text) -> Result<(usize, usize), Memory> {
     match scan(alloc, text.codes())? {
-        Scan::Leaves(count) => Ok((0, count)),
+        Scan::SyntaxError(count) => Ok((0, count)),
         Scan::Tokens(scanned) => Ok((scanned.tokens.len(), 0)),
     }
 }
 
-/// The same character so many times.
+/// The same character `count` times.
 fn repeated(alloc: Global, character: char, count: u32) -> Result<Text, Memory> {
     let mut text = Text::new(alloc);
     for _ in 0..count {
@@ -117,7 +70,7 @@ fn texts_are_read_as_tokens(rt: HostRuntime) -> Result<(), Fail> {
 }
 
 #[test]
-fn texts_leave_the_grammar_at_a_place(rt: HostRuntime) -> Result<(), Fail> {
+fn texts_have_a_syntax_error_at_an_offset(rt: HostRuntime) -> Result<(), Fail> {
     let cases = [
         // no value, or two
         ("", 0),
@@ -225,15 +178,15 @@ fn texts_leave_the_grammar_at_a_place(rt: HostRuntime) -> Result<(), Fail> {
 }
 
 #[test]
-fn each_front_of_an_object_wants_more(rt: HostRuntime) -> Result<(), Fail> {
+fn each_prefix_of_an_object_needs_more(rt: HostRuntime) -> Result<(), Fail> {
     let rich =
         " {\n\"k\u{e9}\\u00e9\\ud83d\\ude00\\n\":[1, -2.5e+3,0 ,true,false,null,\"\",{}],\"b\":{\"c\":[]}}";
-    let mut front = Text::new(rt.alloc());
+    let mut prefix = Text::new(rt.alloc());
     for (count, character) in rich.chars().enumerate() {
-        assert_eq!(rt; counted(rt.alloc(), &front)?, (0, count));
-        front.push(character as u32)?;
+        assert_eq!(rt; counted(rt.alloc(), &prefix)?, (0, count));
+        prefix.push(character as u32)?;
     }
-    assert_eq!(rt; counted(rt.alloc(), &front)?, (31, 0));
+    assert_eq!(rt; counted(rt.alloc(), &prefix)?, (31, 0));
     Ok(())
 }
 

@@ -1,5 +1,5 @@
 use Rattle.std.proofs.Common.{◌≡◌, drop}
-use Rattle.helix_json.specs.NumberSteps.{accepts}
+use Rattle.helix_json.specs.Inner.NumberSteps.{accepts}
 use Rattle.helix_json.specs.declared.digits.NumberState.TheVariants as state
 use Rattle.helix_json.proofs.digits.accepts_number.Given as goal
 

@@ -1,5 +1,5 @@
 use Rattle.std.proofs.Common.{rules}
-use Rattle.helix_json.proofs.Decimal.{digits_more}
+use Rattle.helix_json.specs.Inner.DecimalLaws.{digits_more}
 use Rattle.helix_json.proofs.number.digits_end.Goals as goal
 
 pub loop-i-preserved : goal.loop-i-preserved

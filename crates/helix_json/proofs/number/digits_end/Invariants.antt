@@ -1,5 +1,5 @@
 use Rattle.std.proofs.Common.{take}
-use Rattle.helix_json.specs.Numbers.{AreDigits}
+use Rattle.helix_base.specs.Digits.{AreDigits}
 use Rattle.helix_json.proofs.number.digits_end.Given as goal
 
 abbrev pub invariant-loop-i : goal.invariant-loop-i

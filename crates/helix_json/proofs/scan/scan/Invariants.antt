@@ -1,5 +1,5 @@
 use Rattle.std.proofs.Common.{◌-◌, length}
-use Rattle.helix_json.specs.Progress.{HoldsAt}
+use Rattle.helix_json.specs.Inner.Progress.{HoldsAt}
 use Rattle.helix_json.proofs.scan.scan.Given as goal
 
 abbrev pub invariant-loop-at : goal.invariant-loop-at

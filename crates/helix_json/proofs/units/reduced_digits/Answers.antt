@@ -1,7 +1,8 @@
 use Rattle.std.proofs.Common.{arith, subst, sym, ◌^◌, refl, ℕ}
 use Rattle.helix_json.specs.Numbers.{digits_value}
-use Rattle.helix_json.specs.Pieces.{IsReduced, Unreachable}
-use Rattle.helix_json.proofs.Decimal.{from-append, unreachable_digits}
+use Rattle.helix_json.specs.Inner.Pieces.{IsReduced, Unreachable}
+use Rattle.helix_json.proofs.Decimal.{unreachable_digits}
+use Rattle.helix_json.specs.Inner.DecimalLaws.{from-append}
 use Rattle.helix_json.proofs.Options.{some_map, none_map}
 use Rattle.helix_json.proofs.units.reduced_digits.Goals as goal
 

@@ -1,6 +1,6 @@
 use Rattle.std.proofs.Common.{◌+◌, ◌/◌, ◌^◌, sym, ap, ◌∙◌, arith}
 use Rattle.std.proofs.Math.Nat.{div-div-eq-div-mul}
-use Rattle.helix_json.proofs.Decimal.{pow_more}
+use Rattle.helix_json.specs.Inner.DecimalLaws.{pow_more}
 use Rattle.helix_texts.proofs.FixedDigits.{digit_step, no_digits_yet}
 use Rattle.helix_texts.proofs.put.put_digits.Goals as goal
 

@@ -1,5 +1,0 @@
-use Rattle.helix_json.proofs.Places.{Placed}
-use Rattle.helix_json.proofs.reader.byte_place.Given as goal
-
-abbrev pub invariant-loop-code : goal.invariant-loop-code
-invariant-loop-code l = Placed l.codes l.code-index l.place
