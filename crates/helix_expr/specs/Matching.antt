@@ -17,7 +17,8 @@ IsOneOf ranges (first ∷ second ∷ word) = ⊥
 -- the word is joined from this many words of a language
 abbrev pub Joined : (List ℕ → Type 0) → ℕ → List ℕ → Type 0
 Joined Language zero word = word ≡ []
-Joined Language (suc count) word = (front : List ℕ) × (rest : List ℕ) × (word ≡ front ++ rest) × Language front × Joined Language count rest
+Joined Language (suc count) word = (prefix : List ℕ) × (rest : List ℕ) × (word ≡ prefix ++ rest) × Language prefix
+    × Joined Language count rest
 
 -- the count is not above a greatest one, where there is one
 abbrev pub UpTo : Option ℕ → ℕ → Type 0
@@ -39,7 +40,8 @@ abbrev mutual
   -- the word splits into matches of the parts, in order
   pub MatchesInOrder : {m : _} → Row_of-Expr m → List ℕ → Type 0
   MatchesInOrder end_of-Expr word = word ≡ []
-  MatchesInOrder (more_of-Expr part parts) word = (front : List ℕ) × (rest : List ℕ) × (word ≡ front ++ rest) × Matches part front × MatchesInOrder parts rest
+  MatchesInOrder (more_of-Expr part parts) word = (prefix : List ℕ) × (rest : List ℕ) × (word ≡ prefix ++ rest)
+      × Matches part prefix × MatchesInOrder parts rest
 
   -- some part matches the whole word
   pub MatchesSome : {m : _} → Row_of-Expr m → List ℕ → Type 0
@@ -49,7 +51,8 @@ abbrev mutual
 -- the word splits into matches of the expressions of a list, in order
 abbrev pub MatchInOrder : List Expr → List ℕ → Type 0
 MatchInOrder [] word = word ≡ []
-MatchInOrder (part ∷ parts) word = (front : List ℕ) × (rest : List ℕ) × (word ≡ front ++ rest) × Matches part front × MatchInOrder parts rest
+MatchInOrder (part ∷ parts) word = (prefix : List ℕ) × (rest : List ℕ) × (word ≡ prefix ++ rest) × Matches part prefix
+    × MatchInOrder parts rest
 
 -- some expression of a list matches the whole word
 abbrev pub MatchSome : List Expr → List ℕ → Type 0
@@ -60,13 +63,15 @@ MatchSome (part ∷ parts) word = Matches part word ⊎ MatchSome parts word
 abbrev pub SplitsAt : (List ℕ → Type 0) → ℕ → Option ℕ → ℕ → List ℕ → Type 0
 SplitsAt Language least most cut word = Language (take cut word) × Repeats Language least most (drop cut word)
 
--- the same at some place, behind at least so many characters
+-- the same at some place, after at least so many characters
 abbrev pub SplitsOff : (List ℕ → Type 0) → ℕ → Option ℕ → ℕ → List ℕ → Type 0
-SplitsOff Language least most shortest word = (cut : ℕ) × (shortest ≤ cut) × (cut < length word + 1) × SplitsAt Language least most cut word
+SplitsOff Language least most shortest word = (cut : ℕ) × (shortest ≤ cut) × (cut < length word + 1)
+    × SplitsAt Language least most cut word
 
 -- the word begins with a match, which is the whole word where the end is bound
 abbrev pub BeginsMatch : Expr → Bool → List ℕ → Type 0
-BeginsMatch expr at_end word = (front : List ℕ) × (rest : List ℕ) × (word ≡ front ++ rest) × Matches expr front × (IsTrue at_end → rest ≡ [])
+BeginsMatch expr at_end word = (prefix : List ℕ) × (rest : List ℕ) × (word ≡ prefix ++ rest) × Matches expr prefix
+    × (IsTrue at_end → rest ≡ [])
 
 -- the word has a middle that matches, at its start or its end where an anchor says so
 pub record ContainsMatch (regex : Regex) (word : List ℕ) : Type 0 where

@@ -3,7 +3,7 @@ use Rattle.std.proofs.Common.{◌≡◌, ℕ, suc, ◌+◌, ◌≤◌, ◌<◌, 
 use Rattle.std.proofs.lemmas.List.{get_or_default}
 use Rattle.helix_regex.specs.declared.token.Token.{Token}
 use Rattle.helix_regex.specs.declared.token.Token.TheVariants as token
-use Rattle.helix_regex.specs.Phases.{level, deepest}
+use Rattle.helix_regex.specs.Inner.Rules.{level, deepest}
 
 pub deepest_least : (d : ℕ) (ts : List Token) → d ≤ deepest d ts
 deepest_least d [] = omega arith
@@ -15,20 +15,25 @@ level_most d token.Close = omega arith
 level_most d _ = omega arith
 
 -- one more token
-pub deepest_more : (d m x : ℕ) (t : Token) (ts : List Token) → d ≤ m → max m (deepest d (t ∷ ts)) ≡ x → max (max m (level d t)) (deepest (level d t) ts) ≡ x
+pub deepest_more : (d m x : ℕ) (t : Token) (ts : List Token) → d ≤ m → max m (deepest d (t ∷ ts)) ≡ x
+    → max (max m (level d t)) (deepest (level d t) ts) ≡ x
 deepest_more d m x t ts h e = let k : level d t ≤ deepest (level d t) ts = deepest_least (level d t) ts in omega arith
 
-pub drop_at : (ts : List Token) (i : ℕ) (t : Token) → i < length ts → t ≡ get_or ts i t → drop i ts ≡ t ∷ drop (i + 1) ts
-drop_at ts i t lt e = drop-cons ts i t lt ∙ (ap (λ x. x ∷ drop (suc i) ts) (sym e) ∙ ap (λ n. t ∷ drop n ts) (sym (add-one i)))
+pub drop_at : (ts : List Token) (i : ℕ) (t : Token) → i < length ts → t ≡ get_or ts i t
+    → drop i ts ≡ t ∷ drop (i + 1) ts
+drop_at ts i t lt e = drop-cons ts i t lt
+    ∙ (ap (λ x. x ∷ drop (suc i) ts) (sym e) ∙ ap (λ n. t ∷ drop n ts) (sym (add-one i)))
 
 pub same_at : (ts : List Token) (i : ℕ) (d t : Token) → i < length ts → t ≡ get_or ts i d → t ≡ get_or ts i t
 same_at ts i d t lt e = e ∙ get_or_default ts i d t lt
 
-pub step : (ts : List Token) (i d m n k x : ℕ) (t : Token) → i < length ts → t ≡ get_or ts i t → d ≤ m → max m (deepest d (drop i ts)) ≡ x → n ≡ level d t → k ≡ max m n
+pub step : (ts : List Token) (i d m n k x : ℕ) (t : Token) → i < length ts → t ≡ get_or ts i t → d ≤ m
+    → max m (deepest d (drop i ts)) ≡ x → n ≡ level d t → k ≡ max m n
     → (max k (deepest n (drop (i + 1) ts)) ≡ x) × (n ≤ d + 1) × (n ≤ k)
 step ts i d m n k x t lt e h f g j =
     let cut : drop i ts ≡ t ∷ drop (i + 1) ts = drop_at ts i t lt e in
-    let all : max (max m (level d t)) (deepest (level d t) (drop (i + 1) ts)) ≡ x = deepest_more d m x t (drop (i + 1) ts) h (ap (λ l. max m (deepest d l)) (sym cut) ∙ f) in
+    let all : max (max m (level d t)) (deepest (level d t) (drop (i + 1) ts))
+    ≡ x = deepest_more d m x t (drop (i + 1) ts) h (ap (λ l. max m (deepest d l)) (sym cut) ∙ f) in
     let a : max k (deepest n (drop (i + 1) ts)) ≡ x = ap (λ y. max y (deepest n (drop (i + 1) ts))) j
     ∙ (ap (λ y. max (max m y) (deepest y (drop (i + 1) ts))) g ∙ all) in
     let b : level d t ≤ d + 1 = level_most d t in

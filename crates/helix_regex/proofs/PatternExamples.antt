@@ -31,7 +31,7 @@ anchors_at_the_ends = refl
 pub anchor_in_a_group : bad_anchors (group false (caret (a end)) once end) ≡ 1 ∷ []
 anchor_in_a_group = refl
 
--- an anchor in a group, and a bar outside of every group in front of it
+-- an anchor in a group, and a bar outside of every group before it
 pub bar_before_an_anchor : bad_anchors (a (bar (group false (b (dollar end)) once end))) ≡ 4 ∷ 1 ∷ []
 bar_before_an_anchor = refl
 
@@ -40,17 +40,18 @@ pub bar_in_a_group : bad_anchors (caret (group true (a (bar (b end))) once end))
 bar_in_a_group = refl
 
 -- ranges
-abbrev turned : Pattern
-turned = one (class false (range (plain 98) (plain 97) ∷ [])) once end
+abbrev reversed : Pattern
+reversed = one (class false (range (plain 98) (plain 97) ∷ [])) once end
 
-pub turned_text : pattern_text turned ≡ codes "[b-a]"
-turned_text = refl
+pub reversed_text : pattern_text reversed ≡ codes "[b-a]"
+reversed_text = refl
 
-pub turned_at : bad_ranges 0 turned ≡ 1 ∷ []
-turned_at = refl
+pub reversed_at : bad_ranges 0 reversed ≡ 1 ∷ []
+reversed_at = refl
 
-pub turned_behind_others : bad_ranges 0 (a (one (class true (range (plain 97) (plain 98) ∷ range (escaped 93) (escaped 91) ∷ dash ∷ [])) once end)) ≡ 6 ∷ []
-turned_behind_others = refl
+pub reversed_after_others : bad_ranges 0
+    (a (one (class true (range (plain 97) (plain 98) ∷ range (escaped 93) (escaped 91) ∷ dash ∷ [])) once end)) ≡ 6 ∷ []
+reversed_after_others = refl
 
 -- counts
 abbrev count_down : Pattern
@@ -70,7 +71,8 @@ above_thousand = refl
 
 -- positions and depth
 abbrev large : Pattern
-large = group false (one (literal 97) (times (exactly (codes "1000")) false) end) (times (exactly (codes "6")) false) end
+large = group false (one (literal 97) (times (exactly (codes "1000")) false) end) (times (exactly (codes "6")) false)
+    end
 
 pub large_text : pattern_text large ≡ codes "(a{1000}){6}"
 large_text = refl
@@ -78,7 +80,8 @@ large_text = refl
 pub large_positions : positions large ≡ 6000
 large_positions = refl
 
-pub nothing_counts : positions (group false (one (literal 97) (times (exactly (codes "1000")) false) end) (times (exactly (codes "0")) false) end) ≡ 0
+pub nothing_counts : positions (group false (one (literal 97) (times (exactly (codes "1000")) false) end)
+    (times (exactly (codes "0")) false) end) ≡ 0
 nothing_counts = refl
 
 pub greatest_counts : positions (one dot (times (between (codes "2") (codes "5")) false) end) ≡ 5

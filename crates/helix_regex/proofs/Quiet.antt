@@ -4,9 +4,9 @@ use Rattle.std.specs.List.{list_any}
 use Rattle.helix_regex.specs.declared.token.Token.{Token}
 use Rattle.helix_regex.specs.declared.token.Token.TheVariants as token
 use Rattle.helix_regex.specs.Pattern.{Item, single, range, set_item, dash, Single, literal, dot, escape, set, class, item_text}
-use Rattle.helix_regex.specs.Tokens.{item_tokens, single_tokens}
+use Rattle.helix_regex.specs.Inner.Tokens.{item_tokens, single_tokens}
 use Rattle.helix_regex.specs.Faults.{lesser}
-use Rattle.helix_regex.specs.Phases.{or_else, first_some, least_some, level, bar_at, outer_bar, deepest, miscounted_at, stray_at, is_caret, is_dollar}
+use Rattle.helix_regex.specs.Inner.Rules.{or_else, first_some, least_some, level, bar_at, outer_bar, deepest, miscounted_at, stray_at, is_caret, is_dollar}
 use Rattle.helix_regex.proofs.Deep.{deepest_least}
 
 abbrev pub IsInner : Token → Type 0
@@ -37,15 +37,18 @@ inner_single (set c) at = (tt, tt)
 inner_single (class true is) at = (tt, (tt, inner_end is (at + 2)))
 inner_single (class false is) at = (tt, inner_end is (at + 1))
 
-pub first_quiet : (f : Token → Option ℕ) → ((t : Token) → IsInner t → f t ≡ None) → (ts r : List Token) → AreInner ts → first_some f (ts ++ r) ≡ first_some f r
+pub first_quiet : (f : Token → Option ℕ) → ((t : Token) → IsInner t → f t ≡ None) → (ts r : List Token) → AreInner ts
+    → first_some f (ts ++ r) ≡ first_some f r
 first_quiet f q [] r h = refl
 first_quiet f q (t ∷ ts) r h = ap (λ x. or_else x (first_some f (ts ++ r))) (q t h.0) ∙ first_quiet f q ts r h.1
 
-pub least_quiet : (f : Token → Option ℕ) → ((t : Token) → IsInner t → f t ≡ None) → (ts r : List Token) → AreInner ts → least_some f (ts ++ r) ≡ least_some f r
+pub least_quiet : (f : Token → Option ℕ) → ((t : Token) → IsInner t → f t ≡ None) → (ts r : List Token) → AreInner ts
+    → least_some f (ts ++ r) ≡ least_some f r
 least_quiet f q [] r h = refl
 least_quiet f q (t ∷ ts) r h = ap (λ x. lesser x (least_some f (ts ++ r))) (q t h.0) ∙ least_quiet f q ts r h.1
 
-pub any_quiet : (f : Token → Bool) → ((t : Token) → IsInner t → f t ≡ false) → (ts r : List Token) → AreInner ts → list_any f (ts ++ r) ≡ list_any f r
+pub any_quiet : (f : Token → Bool) → ((t : Token) → IsInner t → f t ≡ false) → (ts r : List Token) → AreInner ts
+    → list_any f (ts ++ r) ≡ list_any f r
 any_quiet f q [] r h = refl
 any_quiet f q (t ∷ ts) r h = ap (λ x. x || list_any f (ts ++ r)) (q t h.0) ∙ any_quiet f q ts r h.1
 
@@ -77,11 +80,13 @@ quiet_level d _ h = refl
 
 pub outer_quiet : (d : ℕ) (ts r : List Token) → AreInner ts → outer_bar d (ts ++ r) ≡ outer_bar d r
 outer_quiet d [] r h = refl
-outer_quiet d (t ∷ ts) r h = ap (λ x. or_else x (outer_bar (level d t) (ts ++ r))) (quiet_bar d t h.0) ∙ (ap (λ x. outer_bar x (ts ++ r)) (quiet_level d t h.0) ∙ outer_quiet d ts r h.1)
+outer_quiet d (t ∷ ts) r h = ap (λ x. or_else x (outer_bar (level d t) (ts ++ r))) (quiet_bar d t h.0)
+    ∙ (ap (λ x. outer_bar x (ts ++ r)) (quiet_level d t h.0) ∙ outer_quiet d ts r h.1)
 
 reached : (d : ℕ) (r : List Token) → max d (deepest d r) ≡ deepest d r
 reached d r = let h : d ≤ deepest d r = deepest_least d r in omega arith
 
 pub deepest_quiet : (d : ℕ) (ts r : List Token) → AreInner ts → deepest d (ts ++ r) ≡ deepest d r
 deepest_quiet d [] r h = refl
-deepest_quiet d (t ∷ ts) r h = ap (λ x. max d (deepest x (ts ++ r))) (quiet_level d t h.0) ∙ (ap (max d) (deepest_quiet d ts r h.1) ∙ reached d r)
+deepest_quiet d (t ∷ ts) r h = ap (λ x. max d (deepest x (ts ++ r))) (quiet_level d t h.0)
+    ∙ (ap (max d) (deepest_quiet d ts r h.1) ∙ reached d r)

@@ -2,11 +2,12 @@
 use Rattle.std.proofs.Common.{◌≡◌, ℕ, List, [], ◌∷◌, ◌++◌, refl, sym, ◌∙◌, ap, append_assoc}
 use Rattle.std.proofs.lemmas.List.{append-nil}
 use Rattle.helix_regex.specs.Pattern.{Item, Quant, Pattern, end, bar, caret, dollar, one, group, item_text, items_text, single_text, quant_text, opening, pattern_text, FitsSingle, FitsQuant, Fits}
-use Rattle.helix_regex.specs.Machine.{append, Atom, alone, grouped, piece}
+use Rattle.helix_regex.proofs.Machine.{append, Atom, alone, grouped, piece}
 
 pub items_text-append : (is js : List Item) → items_text (is ++ js) ≡ items_text is ++ items_text js
 items_text-append [] js = refl
-items_text-append (i ∷ is) js = ap (λ t. item_text i ++ t) (items_text-append is js) ∙ sym (append_assoc (item_text i) (items_text is) (items_text js))
+items_text-append (i ∷ is) js = ap (λ t. item_text i ++ t) (items_text-append is js)
+    ∙ sym (append_assoc (item_text i) (items_text is) (items_text js))
 
 pub items_text-push : (is : List Item) (i : Item) → items_text (is ++ i ∷ []) ≡ items_text is ++ item_text i
 items_text-push is i = items_text-append is (i ∷ []) ∙ ap (λ t. items_text is ++ t) (append-nil (item_text i))
@@ -18,7 +19,8 @@ pattern_text-append (caret p) q = ap (λ t. 94 ∷ t) (pattern_text-append p q)
 pattern_text-append (dollar p) q = ap (λ t. 36 ∷ t) (pattern_text-append p q)
 pattern_text-append (one s k p) q = ap (λ t. single_text s ++ (quant_text k ++ t)) (pattern_text-append p q)
     ∙ simp append_assoc
-pattern_text-append (group bare inner k p) q = ap (λ t. opening bare ++ (pattern_text inner ++ 41 ∷ (quant_text k ++ t))) (pattern_text-append p q)
+pattern_text-append (group bare inner k p) q =
+    ap (λ t. opening bare ++ (pattern_text inner ++ 41 ∷ (quant_text k ++ t))) (pattern_text-append p q)
     ∙ simp append_assoc
 
 pub append-end : (p : Pattern) → append p end ≡ p
@@ -56,14 +58,16 @@ FitsAtom (grouped bare inner) = Fits inner
 
 pub piece-text : (a : Atom) (q : Quant) → pattern_text (piece a q) ≡ atom_text a ++ quant_text q
 piece-text (alone s) q = ap (λ t. single_text s ++ t) (append-nil (quant_text q))
-piece-text (grouped bare inner) q = ap (λ t. opening bare ++ (pattern_text inner ++ 41 ∷ t)) (append-nil (quant_text q)) ∙ simp append_assoc
+piece-text (grouped bare inner) q = ap (λ t. opening bare ++ (pattern_text inner ++ 41 ∷ t)) (append-nil (quant_text q))
+    ∙ simp append_assoc
 
 pub fits-piece : (a : Atom) (q : Quant) → FitsAtom a → FitsQuant q → Fits (piece a q)
 fits-piece (alone s) q h k = (h, k, tt)
 fits-piece (grouped bare inner) q h k = (h, k, tt)
 
 -- a pattern with one more piece
-pub pushed-text : (b : Pattern) (a : Atom) (q : Quant) → pattern_text (append b (piece a q)) ≡ pattern_text b ++ (atom_text a ++ quant_text q)
+pub pushed-text : (b : Pattern) (a : Atom) (q : Quant)
+    → pattern_text (append b (piece a q)) ≡ pattern_text b ++ (atom_text a ++ quant_text q)
 pushed-text b a q = pattern_text-append b (piece a q) ∙ ap (λ t. pattern_text b ++ t) (piece-text a q)
 
 pub fits-pushed : (b : Pattern) (a : Atom) (q : Quant) → Fits b → FitsAtom a → FitsQuant q → Fits (append b (piece a q))

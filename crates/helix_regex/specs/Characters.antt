@@ -2,6 +2,7 @@
 use Rattle.std.specs.Prelude.{ℕ, ◌==◌, ◌&&◌, ◌||◌, not, nat_le, if◌then◌else◌, Bool, List, codes}
 use Rattle.std.specs.List.{list_any}
 use Rattle.helix_base.specs.Alphabet.{is_character_of}
+use Rattle.helix_base.specs.Digits.{is_digit}
 use Rattle.helix_base.specs.declared.alphabet.Alphabet.TheVariants.{Unicode}
 
 abbrev pub is_character : ℕ → Bool
@@ -9,9 +10,6 @@ is_character c = is_character_of Unicode c
 
 abbrev pub is_among : List ℕ → ℕ → Bool
 is_among marks c = list_any (λ mark. c == mark) marks
-
-abbrev pub is_digit : ℕ → Bool
-is_digit c = nat_le 48 c && nat_le c 57
 
 -- an ASCII letter
 abbrev pub is_letter : ℕ → Bool
@@ -21,11 +19,11 @@ is_letter c = (nat_le 65 c && nat_le c 90) || (nat_le 97 c && nat_le c 122)
 abbrev pub is_literal : ℕ → Bool
 is_literal c = is_character c && not (is_among (codes "\\^$.|?*+()[{") c)
 
--- behind a backslash, a character from U+0021 to U+007E that is no letter and no digit stands for itself
+-- after a backslash, a character from U+0021 to U+007E that is no letter and no digit stands for itself
 abbrev pub is_punct : ℕ → Bool
 is_punct c = (nat_le 33 c && nat_le c 126) && not (is_letter c || is_digit c)
 
--- behind a backslash, these letters name a set
+-- after a backslash, these letters name a set
 abbrev pub is_set_letter : ℕ → Bool
 is_set_letter c = is_among (codes "dwsDWS") c
 

@@ -2,12 +2,5 @@ pub mod Characters
 pub mod Pattern
 pub mod Meaning
 pub mod Faults
-pub mod Scan
-pub mod Machine
-pub mod Tokens
-pub mod Lexing
-pub mod Phases
-pub mod Positions
-pub mod Sets
-pub mod Building
 pub mod Parsing
+pub mod Inner

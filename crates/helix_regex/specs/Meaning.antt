@@ -39,14 +39,14 @@ pub record AreRangesOf (has : ℕ → Bool) (ranges : List (ℕ × ℕ)) : Type 
   pub same : (c : ℕ) → in_ranges ranges c ≡ has c
 
 -- the number that digits write, in tens
-abbrev pub number_behind : ℕ → List ℕ → ℕ
-number_behind front [] = front
-number_behind front (digit ∷ digits) = number_behind (front * 10 + (digit - 48)) digits
+abbrev pub number_after : ℕ → List ℕ → ℕ
+number_after prefix [] = prefix
+number_after prefix (digit ∷ digits) = number_after (prefix * 10 + (digit - 48)) digits
 
 abbrev pub number_of : List ℕ → ℕ
-number_of digits = number_behind 0 digits
+number_of digits = number_after 0 digits
 
--- a quantifier repeats; a `?` behind it changes nothing
+-- a quantifier repeats; a `?` after it changes nothing
 abbrev pub counted : Count → Expr → Expr
 counted star e = Repeat e 0 None
 counted plus e = Repeat e 1 None
@@ -59,18 +59,18 @@ abbrev pub quantified : Quant → Expr → Expr
 quantified once e = e
 quantified (times count lazy) e = counted count e
 
--- pieces one behind the other: none is the empty word, and one is itself
+-- pieces one after the other: none is the empty word, and one is itself
 abbrev pub in_sequence : List Expr → Expr
 in_sequence [] = Empty
 in_sequence (e ∷ []) = e
 in_sequence (e ∷ f ∷ es) = Seq (e ∷ f ∷ es)
 
--- a sequence, and those behind bars: where there is no bar, it is itself
+-- a sequence, and those after bars: where there is no bar, it is itself
 abbrev pub any_of : Expr → List Expr → Expr
 any_of e [] = e
 any_of e (f ∷ es) = Alt (e ∷ f ∷ es)
 
--- the pieces up to the first bar outside of groups, and the sequences behind such bars
+-- the pieces up to the first bar outside of groups, and the sequences after such bars
 pub record Parts : Type 0 where
   pub pieces : List Expr
   pub others : List Expr
@@ -78,8 +78,8 @@ pub record Parts : Type 0 where
 abbrev pub together : Parts → Expr
 together parts = any_of (in_sequence parts.pieces) parts.others
 
-abbrev pub behind_bar : Parts → Parts
-behind_bar parts = record { pieces = []; others = in_sequence parts.pieces ∷ parts.others }
+abbrev pub after_bar : Parts → Parts
+after_bar parts = record { pieces = []; others = in_sequence parts.pieces ∷ parts.others }
 
 abbrev pub with_piece : Expr → Parts → Parts
 with_piece e parts = record { pieces = e ∷ parts.pieces; others = parts.others }
@@ -87,10 +87,11 @@ with_piece e parts = record { pieces = e ∷ parts.pieces; others = parts.others
 -- the parts of a pattern. Anchors are no part of them, and a group only binds
 abbrev pub HasParts : Pattern → Parts → Type 0
 HasParts end parts = parts ≡ record { pieces = []; others = [] }
-HasParts (bar p) parts = (rest : Parts) × HasParts p rest × (parts ≡ behind_bar rest)
+HasParts (bar p) parts = (rest : Parts) × HasParts p rest × (parts ≡ after_bar rest)
 HasParts (caret p) parts = HasParts p parts
 HasParts (dollar p) parts = HasParts p parts
-HasParts (one s q p) parts = (ranges : List (ℕ × ℕ)) × (rest : Parts) × AreRangesOf (single_has s) ranges × HasParts p rest
+HasParts (one s q p) parts = (ranges : List (ℕ × ℕ)) × (rest : Parts) × AreRangesOf (single_has s) ranges
+    × HasParts p rest
     × (parts ≡ with_piece (quantified q (Chars ranges)) rest)
 HasParts (group bare inner q p) parts = (within rest : Parts) × HasParts inner within × HasParts p rest
     × (parts ≡ with_piece (quantified q (together within)) rest)

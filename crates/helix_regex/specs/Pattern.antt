@@ -8,9 +8,10 @@
 --     atom   = literal | "." | escape | class | "(" alt ")" | "(?:" alt ")"
 --     class  = "[" [ "^" ] item { item } "]"
 use Rattle.std.specs.Prelude.{◌≡◌, ◌≢◌, ◌⊎◌, ℕ, ◌==◌, ◌&&◌, not, Bool, true, false, IsTrue, List, [], ◌∷◌, ◌++◌, codes}
-use Rattle.helix_regex.specs.Characters.{is_literal, is_digit, is_punct, is_set_letter, is_class_char}
+use Rattle.helix_base.specs.Digits.{AreDigits}
+use Rattle.helix_regex.specs.Characters.{is_literal, is_punct, is_set_letter, is_class_char}
 
--- a single character of a class, or the end of a range: as it is, or behind a backslash
+-- a single character of a class, or the end of a range: as it is, or after a backslash
 pub data End : Type 0 where
   plain : ℕ → End
   escaped : ℕ → End
@@ -39,13 +40,14 @@ pub data Count : Type 0 where
   at_least : List ℕ → Count
   between : List ℕ → List ℕ → Count
 
--- no quantifier, or one, with or without a `?` behind it
+-- no quantifier, or one, with or without a `?` after it
 pub data Quant : Type 0 where
   once : Quant
   times : Count → Bool → Quant
 
--- what alternatives and their sequences are made of, from left to right: nothing more; a bar, an anchor, a single atom with
--- its quantifier, or a group with its, and what stands behind it. A truth value says whether a group begins with `(?:`
+-- what alternatives and their sequences are made of, from left to right: nothing more; a bar, an anchor, a single atom
+-- with
+-- its quantifier, or a group with its, and what stands after it. A truth value says whether a group begins with `(?:`
 pub data Pattern : Type 0 where
   end : Pattern
   bar : Pattern → Pattern
@@ -68,7 +70,7 @@ abbrev pub items_text : List Item → List ℕ
 items_text [] = []
 items_text (item ∷ items) = item_text item ++ items_text items
 
--- a class behind its `[`
+-- a class after its `[`
 abbrev pub class_text : Bool → List Item → List ℕ
 class_text true items = 94 ∷ (items_text items ++ 93 ∷ [])
 class_text false items = items_text items ++ 93 ∷ []
@@ -105,11 +107,7 @@ pattern_text (dollar p) = 36 ∷ pattern_text p
 pattern_text (one s q p) = single_text s ++ (quant_text q ++ pattern_text p)
 pattern_text (group bare inner q p) = opening bare ++ (pattern_text inner ++ 41 ∷ (quant_text q ++ pattern_text p))
 
--- digits, of which there is one at least
-abbrev pub AreDigits : List ℕ → Type 0
-AreDigits [] = Unit {0}
-AreDigits (c ∷ cs) = IsTrue (is_digit c) × AreDigits cs
-
+-- at least one digit
 abbrev pub IsNumeral : List ℕ → Type 0
 IsNumeral digits = (digits ≢ []) × AreDigits digits
 
@@ -125,12 +123,12 @@ FitItems is_first (range e f ∷ items) = (FitsEnd e × FitsEnd f) × FitItems f
 FitItems is_first (set_item letter ∷ items) = IsTrue (is_set_letter letter) × FitItems false items
 FitItems is_first (dash ∷ items) = (IsTrue is_first ⊎ (items ≡ [])) × FitItems false items
 
--- behind a character, a text has no two `&` side by side
+-- after a character, a text has no two `&` side by side
 abbrev pub parts_ampersands : ℕ → List ℕ → Bool
 parts_ampersands before [] = true
 parts_ampersands before (c ∷ cs) = not (before == 38 && c == 38) && parts_ampersands c cs
 
--- a `^` that is the first behind `[` is no item
+-- a `^` that is the first after `[` is no item
 abbrev pub BeginsWithCaret : List ℕ → Type 0
 BeginsWithCaret [] = ⊥
 BeginsWithCaret (c ∷ cs) = c ≡ 94

@@ -2,22 +2,22 @@
 
 ghost use Rattle.std.specs.Prelude.{◌≡◌, [], IfOk};
 ghost use Rattle.helix_regex.specs.Pattern.{Pattern};
-ghost use Rattle.helix_regex.specs.Tokens.{tokens as tokens_of};
+ghost use Rattle.helix_regex.specs.Inner.Tokens.{tokens as tokens_of};
 ghost use Rattle.helix_regex.specs.Faults.{bad_counts};
 ghost use Rattle.helix_regex.specs.Meaning.{MeansRegex};
-ghost use Rattle.helix_regex.specs.Building.{Steps, IsBuilt};
+ghost use Rattle.helix_regex.specs.Inner.Building.{Steps, IsBuilt};
 
 use crate::atoms::{
     end_class, push_class_range, push_class_set, push_dot, push_item, push_literal, push_named,
 };
 use crate::builder::{Builder, alternatives, close_group, end_sequence, open_group, repeat_last};
-use crate::phases::{has_caret, has_dollar};
-use helix_expr::Regex;
+use crate::rules::{has_caret, has_dollar};
 use crate::token::Token;
 use helix_base::Memory;
+use helix_expr::Regex;
 use std::alloc::Global;
 
-/// What is built behind one more token.
+/// What is built after one more token.
 fn step(alloc: Global, builder: Builder, token: Token) -> Result<Builder, Memory>
     ensures { IfOk result (Steps builder token) }
 {
@@ -46,7 +46,7 @@ fn step(alloc: Global, builder: Builder, token: Token) -> Result<Builder, Memory
     }
 }
 
-/// What is built behind tokens.
+/// What is built after tokens.
 fn run(alloc: Global, tokens: &[Token]) -> Result<Builder, Memory>
     ensures { IfOk result (IsBuilt tokens.now) }
 {
@@ -59,7 +59,8 @@ fn run(alloc: Global, tokens: &[Token]) -> Result<Builder, Memory>
 
 /// The expression of a pattern, from its tokens. Its counts are at most 1,000.
 pub fn build(alloc: Global, tokens: &[Token]) -> Result<Regex, Memory>
-    ensures { IfOk result (λ regex. (pattern : Pattern) → tokens.now ≡ tokens_of 0 pattern → bad_counts 0 pattern ≡ [] → MeansRegex pattern regex) }
+    ensures { IfOk result (λ regex. (pattern : Pattern) → tokens.now ≡ tokens_of 0 pattern → bad_counts 0 pattern ≡ []
+        → MeansRegex pattern regex) }
 {
     let Builder {
         outer: _,

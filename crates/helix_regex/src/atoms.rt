@@ -5,7 +5,7 @@ ghost use Rattle.helix_base.specs.Alphabet.{is_in_range};
 ghost use Rattle.helix_base.specs.Ranges.{in_ranges};
 ghost use Rattle.helix_regex.specs.Characters.{is_character, set_has};
 ghost use Rattle.helix_regex.specs.Meaning.{are_separate, AreRangesOf};
-ghost use Rattle.helix_regex.specs.Building.{class_has, PushesSet, Gained};
+ghost use Rattle.helix_regex.specs.Inner.Building.{class_has, PushesSet, Gained};
 
 use crate::builder::{Builder, push_piece};
 use helix_expr::Expr;

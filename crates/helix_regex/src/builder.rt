@@ -2,7 +2,7 @@
 
 ghost use Rattle.std.specs.Prelude.{◌≡◌, ◌++◌, [], ◌∷◌, length, IfOk};
 ghost use Rattle.helix_regex.specs.Meaning.{in_sequence};
-ghost use Rattle.helix_regex.specs.Building.{choice, Steps, Pushes, Opens, Ends};
+ghost use Rattle.helix_regex.specs.Inner.Building.{choice, Steps, Pushes, Opens, Ends};
 ghost use Rattle.helix_regex.specs.declared.token.Token.TheVariants.{Close, Repeat};
 
 use helix_expr::{Expr, Exprs};
@@ -10,14 +10,15 @@ use helix_base::Memory;
 use sqlite_items::{Boxed, Items};
 use std::alloc::Global;
 
-/// What stands in front of an open group: the sequences behind which a bar stands, and the pieces behind them.
+/// What stands before an open group: the sequences after which a bar stands, and the pieces after them.
 #[derive(Debug, Drop)]
 pub struct Level {
     pub done: Exprs,
     pub pieces: Exprs,
 }
 
-/// What is built: the levels around the innermost open group, the innermost last; what stands in that group; and the class
+/// What is built: the levels around the innermost open group, the innermost last; what stands in that group; and the
+/// class
 /// that is being read, as ranges in any order, and whether they are excluded.
 #[derive(Debug, Drop)]
 pub struct Builder {
@@ -28,7 +29,7 @@ pub struct Builder {
     pub excluded: bool,
 }
 
-/// Pieces one behind the other.
+/// Pieces one after the other.
 fn in_sequence(pieces: Exprs) -> Expr
     ensures { result ≡ in_sequence pieces }
 {
@@ -158,7 +159,7 @@ pub fn close_group(builder: Builder) -> Result<Builder, Memory>
     }
 }
 
-/// Ends a sequence, behind which a bar stands.
+/// Ends a sequence, after which a bar stands.
 pub fn end_sequence(alloc: Global, builder: Builder) -> Result<Builder, Memory>
     ensures { IfOk result (Ends builder) }
 {

@@ -2,23 +2,22 @@
 
 ghost use Rattle.std.specs.Prelude.{◌≡◌, ◌<◌, ◌||◌, Option, Some, None, nat_lt, IfSome, IfNone, IfOk, [], length};
 ghost use Rattle.std.specs.List.{list_any};
-ghost use Rattle.helix_regex.specs.Pattern.{Pattern, Writes};
-ghost use Rattle.helix_regex.specs.Faults.{AreCharacters, LeavesAlphabet, FirstFault};
-ghost use Rattle.helix_regex.specs.Phases.{anchors_found, first_rule, token_fault, least_some, stray_at, is_caret, is_dollar, outer_bar};
+ghost use Rattle.helix_regex.specs.Faults.{AreCharacters, IsPatternText, IsFirstOutside, FirstFault};
+ghost use Rattle.helix_regex.specs.Inner.Rules.{anchors_found, first_rule, token_fault, least_some, stray_at, is_caret, is_dollar, outer_bar};
 
 use crate::fault::{RegexFault, RegexRule};
-use crate::phases::{
-    has_caret, has_dollar, lesser, miscount, outer_bar, stray_anchor, turned_range,
+use crate::rules::{
+    has_caret, has_dollar, lesser, miscount, outer_bar, reversed_range, stray_anchor,
 };
-use crate::scan::leaves_grammar;
+use crate::scan::syntax_error;
 use crate::size::is_too_large;
 use crate::token::Token;
 use helix_base::Alphabet;
 use std::alloc::{AllocError, Global};
 
-/// How many characters stand in front of the first that is none of the alphabet.
-fn leaves_alphabet(codes: &[u32]) -> Option<usize>
-    ensures some { IfSome result (LeavesAlphabet codes.now) }
+/// How many characters stand before the first that is none of the alphabet.
+fn outside_alphabet(codes: &[u32]) -> Option<usize>
+    ensures some { IfSome result (IsFirstOutside codes.now) }
     ensures none { IfNone result (AreCharacters codes.now) }
 {
     for (i, code) in codes.iter().enumerate() {
@@ -33,15 +32,15 @@ fn leaves_alphabet(codes: &[u32]) -> Option<usize>
 pub fn text_fault(codes: &[u32]) -> Option<RegexFault>
     ensures some { IfSome result (FirstFault codes.now) }
     ensures characters { IfNone result (AreCharacters codes.now) }
-    ensures pattern { IfNone result ((pattern : Pattern) × Writes codes.now pattern) }
+    ensures pattern { IfNone result (IsPatternText codes.now) }
 {
-    if let Some(at) = leaves_alphabet(codes) {
+    if let Some(at) = outside_alphabet(codes) {
         return Some(RegexFault {
             rule: RegexRule::OutsideAlphabet,
             at: at as u64,
         });
     }
-    match leaves_grammar(codes) {
+    match syntax_error(codes) {
         Some(at) => Some(RegexFault {
             rule: RegexRule::Syntax,
             at: at as u64,
@@ -52,7 +51,8 @@ pub fn text_fault(codes: &[u32]) -> Option<RegexFault>
 
 /// The least place at which the rule on anchors is broken, in a pattern of so many characters.
 fn bad_anchor(tokens: &[Token], size: usize) -> Option<usize>
-    ensures { result ≡ anchors_found (least_some (stray_at size) tokens.now) (list_any is_caret tokens.now || list_any is_dollar tokens.now) (outer_bar 0 tokens.now) }
+    ensures { result ≡ anchors_found (least_some (stray_at size) tokens.now) (list_any is_caret tokens.now
+        || list_any is_dollar tokens.now) (outer_bar 0 tokens.now) }
 {
     let stray = stray_anchor(tokens, size);
     if has_caret(tokens) || has_dollar(tokens) {
@@ -98,7 +98,7 @@ pub fn token_fault(
     let large = is_too_large(alloc, tokens)?;
     Ok(first_rule(
         bad_anchor(tokens, size),
-        turned_range(tokens),
+        reversed_range(tokens),
         miscount(tokens),
         large,
     ))

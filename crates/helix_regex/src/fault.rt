@@ -11,7 +11,7 @@ pub enum RegexRule {
     Syntax,
     /// `^` stands first and `$` last, and no `|` outside of groups stands beside them.
     Anchor,
-    /// No range of a class is turned round.
+    /// No range of a class is reversed.
     BadRange,
     /// A count is at most 1,000, and its second number is not below the first.
     BadCount,

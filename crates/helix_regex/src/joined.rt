@@ -3,7 +3,7 @@
 ghost use Rattle.std.specs.Prelude.{◌≡◌, ℕ, ◌++◌, ◌||◌, nat_le, nat_lt, None, Some, IfOk, IsPermutation};
 ghost use Rattle.helix_base.specs.Ranges.{in_ranges};
 ghost use Rattle.helix_regex.specs.Meaning.{AreRangesOf};
-ghost use Rattle.helix_regex.specs.Sets.{Ascending, touches, joined, joined_from};
+ghost use Rattle.helix_regex.specs.Inner.Sets.{Ascending, touches, joined, joined_from};
 
 use helix_expr::Ranges;
 use helix_base::Memory;

@@ -1,24 +1,41 @@
-//! The expression that a pattern spells, or the first rule that it breaks and where: [`parse`].
+//! Patterns: the expression that a text spells, or the first rule that it breaks and where.
 //!
-//! The grammar stands in `specs/Pattern.antt`, its meaning in `specs/Meaning.antt`, and the rules in
-//! `specs/Faults.antt`. A text writes at most one pattern, spells at most one expression and has at
-//! most one first fault. The types are those of `helix_expr`, which says what they match.
+//! ```
+//! let text = Text::of(alloc, "^[A-Z]{2}-\\d+$")?;
+//! match parse(alloc, &text) {
+//!     Ok(regex) => ..,                        // the expression, and whether its start and end are bound
+//!     Err(RegexError::Fault(fault)) => ..,    // fault.rule is broken at character fault.at
+//!     Err(RegexError::Memory) => ..,          // out of memory: no rule is known to be broken
+//! }
+//! ```
+//!
+//! - [`parse`] gives the one expression that the text spells (`SpellsPattern` of `specs/Meaning.antt`), and then no rule
+//!   is broken. A fault is the first of the six rules that is broken, at its offset in characters (`FirstFault` of
+//!   `specs/Faults.antt`); a syntax error is at the end of the longest viable prefix.
+//! - A text writes at most one pattern, spells at most one expression and has at most one first fault ([`one_pattern`],
+//!   [`one_regex`], [`one_fault`]).
+//!
+//! Time and memory grow with the length of the text, whatever its nesting and the numbers in its counts. The grammar is
+//! in `specs/Pattern.antt`. The types are those of `helix_expr`, which says what they match.
 #![tactic(auto)]
 
 mod assembly;
 mod atoms;
 mod builder;
+mod char_kind;
 mod check;
+mod class_state;
+mod emit;
 mod fault;
 mod joined;
 mod laws;
 mod lexer;
-mod mode;
-mod phases;
+mod limits;
 mod reader;
+mod rules;
 mod scan;
+mod scanner_state;
 mod sets;
-mod sign;
 mod size;
 mod token;
 

@@ -14,7 +14,8 @@ use helix_expr::Regex;
 use helix_base::{Memory, Text};
 use std::alloc::Global;
 
-/// The expression that a pattern spells, or the first rule that it breaks. Text and nesting may be of any length and depth.
+/// The expression that a pattern spells, or the first rule that it breaks. Text and nesting may be of any length and
+/// depth.
 pub fn parse(alloc: Global, text: &Text) -> Result<Regex, RegexError>
     ensures spelt { IfOk result (λ regex. SpellsPattern text.now regex) }
     ensures sound { IfOk result (λ regex. (fault : Broken) → ¬ (FirstFault text.now fault)) }

@@ -2,42 +2,42 @@
 
 ghost use Rattle.std.specs.Prelude.{◌≡◌, ◌<◌, ◌==◌, ◌&&◌, IsTrue, IfSome, IfNone};
 ghost use Rattle.helix_regex.specs.Characters.{is_character};
-ghost use Rattle.helix_regex.specs.Pattern.{Pattern, Writes};
-ghost use Rattle.helix_regex.specs.Faults.{AreCharacters, LeavesGrammar};
-ghost use Rattle.helix_regex.specs.Scan.{position_step, may_end};
+ghost use Rattle.helix_base.specs.Syntax.{IsSyntaxErrorAt};
+ghost use Rattle.helix_regex.specs.Faults.{AreCharacters, IsPatternText};
+ghost use Rattle.helix_regex.specs.Inner.Scan.{position_step, may_end};
 
-use crate::mode::{Advance, Mode, next_mode};
+use crate::scanner_state::{Advance, ScannerState, next_state};
 
 /// What a scanner keeps: the mode, and how many groups are open.
 #[derive(Clone, Copy, Debug)]
 pub struct Position {
-    pub mode: Mode,
+    pub scanner_state: ScannerState,
     pub depth: usize,
 }
 
 impl Position {
-    /// The position behind one more character, or `None` where no pattern goes on so.
+    /// The position after one more character, or `None` where no pattern goes on so.
     pub fn advance(self, code: u32) -> Option<Position>
         requires character { IsTrue (is_character code) }
         requires room { self.depth < usize.MAX }
         ensures { result ≡ position_step self code }
     {
-        match next_mode(self.mode, code) {
+        match next_state(self.scanner_state, code) {
             Advance::Refuse => None,
-            Advance::Stay(mode) => Some(Position {
-                mode,
+            Advance::Stay(scanner_state) => Some(Position {
+                scanner_state,
                 depth: self.depth,
             }),
-            Advance::Open(mode) => Some(Position {
-                mode,
+            Advance::Open(scanner_state) => Some(Position {
+                scanner_state,
                 depth: self.depth + 1,
             }),
-            Advance::Close(mode) => {
+            Advance::Close(scanner_state) => {
                 if self.depth == 0 {
                     None
                 } else {
                     Some(Position {
-                        mode,
+                        scanner_state,
                         depth: self.depth - 1,
                     })
                 }
@@ -47,29 +47,29 @@ impl Position {
 
     /// Whether a pattern may end here.
     pub fn may_end(self) -> bool
-        ensures { result ≡ (self.depth == 0 && may_end self.mode) }
+        ensures { result ≡ (self.depth == 0 && may_end self.scanner_state) }
     {
-        self.depth == 0 && may_end(self.mode)
+        self.depth == 0 && may_end(self.scanner_state)
     }
 }
 
-fn may_end(mode: Mode) -> bool
-    ensures { result ≡ may_end mode }
+fn may_end(scanner_state: ScannerState) -> bool
+    ensures { result ≡ may_end scanner_state }
 {
-    match mode {
-        Mode::Ready | Mode::Atom | Mode::Quantified => true,
+    match scanner_state {
+        ScannerState::Ready | ScannerState::Atom | ScannerState::Quantified => true,
         _ => false,
     }
 }
 
-/// The length of the longest front with which some pattern begins, or `None` where the text is in the grammar.
-pub fn leaves_grammar(codes: &[u32]) -> Option<usize>
+/// The length of the longest viable prefix, or `None` where the text is in the grammar.
+pub fn syntax_error(codes: &[u32]) -> Option<usize>
     requires { AreCharacters codes.now }
-    ensures some { IfSome result (LeavesGrammar codes.now) }
-    ensures none { IfNone result ((pattern : Pattern) × Writes codes.now pattern) }
+    ensures some { IfSome result (IsSyntaxErrorAt IsPatternText codes.now) }
+    ensures none { IfNone result (IsPatternText codes.now) }
 {
     let mut position = Position {
-        mode: Mode::Ready,
+        scanner_state: ScannerState::Ready,
         depth: 0,
     };
     for (i, code) in codes.iter().enumerate() {

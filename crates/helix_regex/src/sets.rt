@@ -5,7 +5,7 @@ ghost use Rattle.helix_base.specs.Ranges.{in_ranges};
 ghost use Rattle.helix_base.specs.Alphabet.{is_in_range};
 ghost use Rattle.helix_regex.specs.Characters.{is_character, is_word, set_has};
 ghost use Rattle.helix_regex.specs.Meaning.{are_separate, AreRangesOf};
-ghost use Rattle.helix_regex.specs.Sets.{Gains, GainsAllBut};
+ghost use Rattle.helix_regex.specs.Inner.Sets.{Gains, GainsAllBut};
 
 use helix_expr::Ranges;
 use helix_base::Memory;
@@ -29,7 +29,7 @@ pub fn push_clipped(raw: &mut Vec<(u32, u32)>, first: u32, last: u32) -> Result<
     push_range(raw, first.max(0xE000), last.min(0x10_FFFF))
 }
 
-/// Appends the characters of the alphabet from one on and in front of a code.
+/// Appends the characters of the alphabet from one on and before a code.
 fn push_gap(raw: &mut Vec<(u32, u32)>, next: u32, end: u32) -> Result<(), AllocError>
     ensures { OnOk result (Gains (λ c. is_character c && (nat_le next c && nat_lt c end)) raw.old.items raw.new.items) }
 {
@@ -54,7 +54,7 @@ pub fn push_gaps(raw: &mut Vec<(u32, u32)>, ranges: &[(u32, u32)]) -> Result<(),
 }
 
 /// Appends one character.
-#[tactic(auto, using(crate::proofs::RangeSets::one_gained))]
+#[tactic(auto, using(crate::proofs::NamedSets::one_gained))]
 pub fn push_one(raw: &mut Vec<(u32, u32)>, code: u32) -> Result<(), AllocError>
     ensures { OnOk result (Gains (λ c. c == code) raw.old.items raw.new.items) }
 {
@@ -66,28 +66,36 @@ pub fn push_one(raw: &mut Vec<(u32, u32)>, code: u32) -> Result<(), AllocError>
 fn push_word(raw: &mut Vec<(u32, u32)>) -> Result<(), AllocError>
     ensures { OnOk result (Gains is_word raw.old.items raw.new.items) }
 {
-    push_range(raw, 65, 90)?;
-    push_range(raw, 97, 122)?;
-    push_range(raw, 48, 57)?;
-    push_one(raw, 95)?;
+    push_range(raw, 'A' as u32, 'Z' as u32)?;
+    push_range(raw, 'a' as u32, 'z' as u32)?;
+    push_range(raw, '0' as u32, '9' as u32)?;
+    push_one(raw, '_' as u32)?;
     Ok(())
 }
 
-/// Appends the set that a letter behind a backslash names. A letter that names none is read as `S`.
+/// Appends the set that a letter after a backslash names. A letter that names none is read as `S`.
 pub fn push_set(raw: &mut Vec<(u32, u32)>, letter: u32) -> Result<(), AllocError>
     ensures { OnOk result (Gains (set_has letter) raw.old.items raw.new.items) }
 {
-    if letter == 100 {
-        push_range(raw, 48, 57)
-    } else if letter == 119 {
+    if letter == 'd' as u32 {
+        push_range(raw, '0' as u32, '9' as u32)
+    } else if letter == 'w' as u32 {
         push_word(raw)
-    } else if letter == 115 {
-        push_one(raw, 32)
-    } else if letter == 68 {
-        push_gaps(raw, &[(48, 57)])
-    } else if letter == 87 {
-        push_gaps(raw, &[(48, 57), (65, 90), (95, 95), (97, 122)])
+    } else if letter == 's' as u32 {
+        push_one(raw, ' ' as u32)
+    } else if letter == 'D' as u32 {
+        push_gaps(raw, &[('0' as u32, '9' as u32)])
+    } else if letter == 'W' as u32 {
+        push_gaps(
+            raw,
+            &[
+                ('0' as u32, '9' as u32),
+                ('A' as u32, 'Z' as u32),
+                ('_' as u32, '_' as u32),
+                ('a' as u32, 'z' as u32),
+            ],
+        )
     } else {
-        push_gaps(raw, &[(32, 32)])
+        push_gaps(raw, &[(' ' as u32, ' ' as u32)])
     }
 }

@@ -1,10 +1,11 @@
 //! How large a pattern is: its positions, and how deep its groups are nested.
 
 ghost use Rattle.std.specs.Prelude.{◌≡◌, ℕ, ◌+◌, ◌*◌, ◌||◌, min, nat_lt, reverse, drop, [], IfOk};
-ghost use Rattle.helix_regex.specs.Phases.{deepest};
-ghost use Rattle.helix_regex.specs.Positions.{cap, repeats, total};
+ghost use Rattle.helix_regex.specs.Inner.Rules.{deepest};
+ghost use Rattle.helix_regex.specs.Inner.Positions.{cap, repeats, total};
 
-use crate::phases::deepest;
+use crate::limits::{MAX_DEPTH, MAX_POSITIONS};
+use crate::rules::deepest;
 use crate::token::Token;
 use std::alloc::{AllocError, Global};
 
@@ -12,13 +13,13 @@ use std::alloc::{AllocError, Global};
 fn capped_sum(a: u32, b: u32) -> u32
     ensures { result ≡ cap (a + b) }
 {
-    (a as u64 + b as u64).min(5001) as u32
+    (a as u64 + b as u64).min(MAX_POSITIONS as u64 + 1) as u32
 }
 
 fn capped_product(a: u32, b: u32) -> u32
     ensures { result ≡ cap (a * b) }
 {
-    (a as u64 * b as u64).min(5001) as u32
+    (a as u64 * b as u64).min(MAX_POSITIONS as u64 + 1) as u32
 }
 
 /// How often the positions of what is repeated count.
@@ -31,7 +32,7 @@ fn repeats(least: u32, most: Option<u32>) -> u32
     }
 }
 
-/// The positions of a pattern, or 5,001 where it has more than 5,000. `outer` has those in front of each open group.
+/// The positions of a pattern, or 5,001 where it has more than 5,000. `outer` has those before each open group.
 fn positions(alloc: Global, tokens: &[Token]) -> Result<u32, AllocError>
     ensures { IfOk result (λ all. all ≡ total [] 0 0 tokens.now) }
 {
@@ -68,5 +69,5 @@ pub fn is_too_large(alloc: Global, tokens: &[Token]) -> Result<bool, AllocError>
 {
     let positions = positions(alloc, tokens)?;
     let deepest = deepest(tokens);
-    Ok(5000 < positions || 64 < deepest)
+    Ok(MAX_POSITIONS < positions || MAX_DEPTH < deepest)
 }

@@ -242,12 +242,12 @@ fn tells_the_first_rule_that_a_pattern_breaks(rt: HostRuntime) -> Result<(), Fai
 fn nested(alloc: Global, count: u32, closed: bool) -> Result<Text, Memory> {
     let mut text = Text::new(alloc);
     for _ in 0..count {
-        text.push(40)?;
+        text.push('(' as u32)?;
     }
     if closed {
-        text.push(97)?;
+        text.push('a' as u32)?;
         for _ in 0..count {
-            text.push(41)?;
+            text.push(')' as u32)?;
         }
     }
     Ok(text)

@@ -1,6 +1,6 @@
 //! The tokens of a pattern.
 
-/// What a part of a pattern says. A `?` behind a quantifier says nothing, and a class is its items between two marks. A
+/// What a part of a pattern says. A `?` after a quantifier says nothing, and a class is its items between two marks. A
 /// token with a rule has the place of its first character.
 #[derive(Clone, Copy, Debug)]
 pub enum Token {
@@ -16,7 +16,7 @@ pub enum Token {
     /// `\` and a letter that names a set.
     Set(u32),
     ClassStart,
-    /// `^` behind the `[`.
+    /// `^` after the `[`.
     Exclude,
     /// A single character of a class.
     Item(u32),

@@ -7,12 +7,14 @@ pub returns-then-begins_match : goal.returns-then-begins_match
 returns-then-begins_match c =
     is_so (ContainsMatch (free c.args.expr.now c.args.at_end) c.args.word.now)
     (found_part c.args.expr.now c.args.at_end c.args.word.now c.loop-cut.cut
-    (part_from c.begins_match.result c.args.expr.now c.args.at_end c.loop-cut.cut c.args.word.now c.begins_match.ensures c.if-begins_match.true))
+    (part_from c.begins_match.result c.args.expr.now c.args.at_end c.loop-cut.cut c.args.word.now c.begins_match.ensures
+    c.if-begins_match.true))
 
 pub loop-cut-preserved : goal.loop-cut-preserved
 loop-cut-preserved c =
     below_more _ _ c.loop-cut.invariant
-    (no_part_from c.begins_match.result c.args.expr.now c.args.at_end c.loop-cut.cut c.args.word.now c.begins_match.ensures c.if-begins_match.false)
+    (no_part_from c.begins_match.result c.args.expr.now c.args.at_end c.loop-cut.cut c.args.word.now
+    c.begins_match.ensures c.if-begins_match.false)
 
 pub returns : goal.returns
 returns c =

@@ -12,10 +12,12 @@ abbrev pub decreases-matches_in_order : goal.decreases-matches_in_order
 decreases-matches_in_order l = goal.size-matches_in_order l * 73786976294838206464 + length l.parts.now + 1
 
 abbrev pub decreases-matches_repeated : goal.decreases-matches_repeated
-decreases-matches_repeated l = goal.size-matches_repeated l * 73786976294838206464 + 3 * (l.least + length l.word.now) + 1
+decreases-matches_repeated l = goal.size-matches_repeated
+    l * 73786976294838206464 + 3 * (l.least + length l.word.now) + 1
 
 abbrev pub decreases-splits_off : goal.decreases-splits_off
-decreases-splits_off l = goal.size-splits_off l * 73786976294838206464 + 3 * (l.least + length l.word.now - l.shortest) + 3
+decreases-splits_off l = goal.size-splits_off
+    l * 73786976294838206464 + 3 * (l.least + length l.word.now - l.shortest) + 3
 
 abbrev pub decreases-splits_at : goal.decreases-splits_at
 decreases-splits_at l = goal.size-splits_at l * 73786976294838206464 + 3 * (l.least + length l.word.now - l.cut) + 2
@@ -24,7 +26,9 @@ abbrev pub invariant-matches_some-loop-part : goal.invariant-matches_some-loop-p
 invariant-matches_some-loop-part l = MatchSome (drop l.part-index l.parts) l.word ↔ MatchSome l.parts l.word
 
 abbrev pub invariant-matches_in_order-loop-cut : goal.invariant-matches_in_order-loop-cut
-invariant-matches_in_order-loop-cut l = (k : ℕ) → k < l.cut → Matches l.part (take k l.word) → ¬ MatchInOrder l.rest (drop k l.word)
+invariant-matches_in_order-loop-cut l = (k : ℕ) → k < l.cut → Matches l.part (take k l.word)
+    → ¬ MatchInOrder l.rest (drop k l.word)
 
 abbrev pub invariant-splits_off-loop-cut : goal.invariant-splits_off-loop-cut
-invariant-splits_off-loop-cut l = (k : ℕ) → l.shortest ≤ k → k < l.cut → ¬ SplitsAt (Matches l.part) l.least l.most k l.word
+invariant-splits_off-loop-cut l = (k : ℕ) → l.shortest ≤ k → k < l.cut
+    → ¬ SplitsAt (Matches l.part) l.least l.most k l.word

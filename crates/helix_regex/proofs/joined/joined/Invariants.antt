@@ -1,5 +1,5 @@
 use Rattle.std.proofs.Common.{◌≡◌, ◌++◌, None, drop}
-use Rattle.helix_regex.specs.Sets.{joined_from}
+use Rattle.helix_regex.specs.Inner.Sets.{joined_from}
 use Rattle.helix_regex.proofs.joined.joined.Given as goal
 
 abbrev pub invariant-loop-range : goal.invariant-loop-range

@@ -1,4 +1,4 @@
-use Rattle.helix_regex.proofs.Reading as reading
+use Rattle.helix_regex.proofs.ReadingPatterns as reading
 use Rattle.helix_regex.proofs.laws.one_pattern.Goals as goal
 
 pub returns : goal.returns

@@ -13,8 +13,10 @@ pub next-lexer-requires : goal.next-lexer-requires
 next-lexer-requires c = character_at c.args.codes.now c.loop-i.i c.requires c.loop-i-test.true
 
 pub loop-i-preserved : goal.loop-i-preserved
-loop-i-preserved c p w = lexed_more c.args.codes.now p c.loop-i.i c.loop-i.lexer c.next-lexer.result c.loop-i.all.items c.push_tokens.new.tokens.items w
+loop-i-preserved c p w = lexed_more c.args.codes.now p c.loop-i.i c.loop-i.lexer c.next-lexer.result c.loop-i.all.items
+    c.push_tokens.new.tokens.items w
     c.loop-i-test.true (c.loop-i.invariant p w) c.in_ok-push_tokens.ensures c.next-lexer.ensures
 
 pub returns : goal.returns
-returns c p w = lexed_all c.args.codes.now p c.loop-i.i c.loop-i.lexer c.loop-i.all.items w c.loop-i-test.false (c.loop-i.invariant p w)
+returns c p w = lexed_all c.args.codes.now p c.loop-i.i c.loop-i.lexer c.loop-i.all.items w c.loop-i-test.false
+    (c.loop-i.invariant p w)

@@ -1,5 +1,5 @@
 use Rattle.std.proofs.Common.{drop}
-use Rattle.helix_regex.proofs.RangeSets.{GapsLeft}
+use Rattle.helix_regex.proofs.Gaps.{GapsLeft}
 use Rattle.helix_regex.proofs.sets.push_gaps.Given as goal
 
 abbrev pub invariant-loop-range : goal.invariant-loop-range

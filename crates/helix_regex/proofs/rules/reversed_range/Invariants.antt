@@ -1,0 +1,6 @@
+use Rattle.std.proofs.Common.{◌≡◌, drop}
+use Rattle.helix_regex.specs.Inner.Rules.{first_some, reversed_at}
+use Rattle.helix_regex.proofs.rules.reversed_range.Given as goal
+
+abbrev pub invariant-loop-token : goal.invariant-loop-token
+invariant-loop-token l = first_some reversed_at (drop l.token-index l.tokens) ≡ first_some reversed_at l.tokens
