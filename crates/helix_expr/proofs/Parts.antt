@@ -2,7 +2,8 @@
 use Rattle.std.proofs.Common.{◌≡◌, ℕ, ◌+◌, ◌-◌, ◌<◌, ◌≤◌, List, [], ◌++◌, length, take, drop, ◌↔◌, Bool, true, false, IsTrue, refl, sym, ◌∙◌, ap, subst, arith, length-append, length-drop}
 use Rattle.std.proofs.Math.Seq.{drop-append_seam, take-append_seam}
 use Rattle.std.proofs.lemmas.List.{take-append-drop, take_all, append-nil}
-use Rattle.helix_expr.specs.Matching.{Matches, BeginsMatch, ContainsMatch}
+use Rattle.helix_expr.specs.Matching.{Matches, ContainsMatch}
+use Rattle.helix_expr.specs.Inner.Splitting.{BeginsMatch}
 use Rattle.helix_expr.specs.declared.expr.Expr.{Expr}
 use Rattle.helix_expr.specs.declared.regex.Regex.{Regex}
 

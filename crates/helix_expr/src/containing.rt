@@ -1,7 +1,8 @@
 //! Words that contain a match, found by trying each part of the word.
 
 ghost use Rattle.std.specs.Prelude.{◌↔◌, IsTrue, false};
-ghost use Rattle.helix_expr.specs.Matching.{BeginsMatch, ContainsMatch};
+ghost use Rattle.helix_expr.specs.Matching.{ContainsMatch};
+ghost use Rattle.helix_expr.specs.Inner.Splitting.{BeginsMatch};
 
 use crate::expr::Expr;
 use crate::matching::matches;

@@ -1,9 +1,8 @@
-//! Expressions.
+//! Expressions and their copies.
 
 ghost use Rattle.std.specs.Prelude.{◌≡◌, IfOk};
 
-use crate::ranges::Ranges;
-use helix_base::Memory;
+use helix_base::{List, Memory};
 use sqlite_items::{Boxed, Items};
 use std::alloc::Global;
 
@@ -18,9 +17,12 @@ pub enum Expr {
     Seq(Items<Expr>),
     /// A word of some part.
     Alt(Items<Expr>),
-    /// Words of the part, joined: how many at least and, if any, at most.
+    /// Words of the part, joined: the least number of them, and the greatest, if any.
     Repeat(Boxed<Expr>, u32, Option<u32>),
 }
+
+/// Ranges of code points, each from its first to its last.
+pub type Ranges = List<(u32, u32)>;
 
 /// Expressions, that contracts see as their list.
 pub type Exprs = Items<Expr>;

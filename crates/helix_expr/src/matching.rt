@@ -2,9 +2,11 @@
 
 ghost use Rattle.std.specs.Prelude.{◌≡◌, ◌-◌, ◌≤◌, ◌↔◌, IsTrue, length};
 ghost use Rattle.std.specs.Option.{option_map};
-ghost use Rattle.helix_expr.specs.Matching.{Matches, MatchInOrder, MatchSome, Repeats, SplitsAt, SplitsOff, IsOneOf, InRanges};
+ghost use Rattle.helix_expr.specs.Matching.{Matches, MatchInOrder, MatchSome, Repeats, IsOneOf};
+ghost use Rattle.helix_expr.specs.Inner.Splitting.{SplitsAt, SplitsOff};
 
 use crate::expr::Expr;
+use helix_base::in_ranges;
 
 /// Whether an expression matches a whole word.
 #[cycle(matching)]
@@ -67,7 +69,7 @@ fn matches_repeated(part: &Expr, least: u32, most: Option<u32>, word: &[u32]) ->
     }
 }
 
-/// Whether a first word, of at least so many characters, leaves words that repeat.
+/// Whether a first word, of at least `shortest` characters, leaves words that repeat.
 #[cycle(matching)]
 fn splits_off(part: &Expr, least: u32, most: Option<u32>, shortest: usize, word: &[u32]) -> bool
     requires { shortest ≤ length word.now }
@@ -114,15 +116,4 @@ fn is_one_of(ranges: &[(u32, u32)], word: &[u32]) -> bool
         [code] => in_ranges(ranges, *code),
         _ => false,
     }
-}
-
-fn in_ranges(ranges: &[(u32, u32)], code: u32) -> bool
-    ensures { IsTrue result ↔ InRanges ranges.now code }
-{
-    for range in ranges {
-        if range.0 <= code && code <= range.1 {
-            return true;
-        }
-    }
-    false
 }

@@ -160,7 +160,8 @@ first_of_three : (a b c : Bool) → ((a || b) || c) ≡ false → a ≡ false
 first_of_three true b c e = cc
 first_of_three false b c e = refl
 
-pub quant_run : (q : Quant) (at : ℕ) (e : Expr) (a b m : Builder) (r : List Token) → is_bad_count q ≡ false → Pushes e a b
+pub quant_run : (q : Quant) (at : ℕ) (e : Expr) (a b m : Builder) (r : List Token) → is_bad_count q ≡ false
+    → Pushes e a b
     → Runs b (quant_tokens at q ++ r) m → QuantRun q e a r m
 quant_run once at e a b m r good h k = (b, h, k)
 quant_run (times star lazy) at e a b m r good h (n, s, k) = (n, repeated e 0 None a b n h s, k)

@@ -18,7 +18,8 @@ pub lesser-assoc : (a b c : Option ℕ) → lesser (lesser a b) c ≡ lesser a (
 lesser-assoc None b c = refl
 lesser-assoc (Some x) None c = refl
 lesser-assoc (Some x) (Some y) None = refl
-lesser-assoc (Some x) (Some y) (Some z) = let e : min (min x y) z ≡ min x (min y z) = omega arith in ap (λ n. Some n) e
+lesser-assoc (Some x) (Some y) (Some z) =
+    let e : min (min x y) z ≡ min x (min y z) = omega arith in ap (λ n. Some n) e
 
 pub first_of-append : (xs ys : List ℕ) → first_of (xs ++ ys) ≡ or_else (first_of xs) (first_of ys)
 first_of-append [] ys = refl
@@ -46,7 +47,8 @@ any-append f [] ys = refl
 any-append f (x ∷ xs) ys = ap (λ b. f x || b) (any-append f xs ys)
     ∙ sym (or_assoc (f x) (list_any f xs) (list_any f ys))
 
-pub first_if : (b : Bool) (at : ℕ) (xs : List ℕ) → first_of (offset_if b at ++ xs) ≡ or_else (some_if b at) (first_of xs)
+pub first_if : (b : Bool) (at : ℕ) (xs : List ℕ)
+    → first_of (offset_if b at ++ xs) ≡ or_else (some_if b at) (first_of xs)
 first_if true at xs = refl
 first_if false at xs = refl
 

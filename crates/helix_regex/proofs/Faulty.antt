@@ -2,13 +2,20 @@
 use Rattle.std.proofs.Common.{◌≡◌, ℕ, Bool, true, false, Option, Some, None, IfSome, IfNone, List, [], ◌∷◌, length, refl, sym, ◌∙◌, ap, subst}
 use Rattle.helix_regex.specs.declared.fault.RegexFault.{RegexFault}
 use Rattle.helix_regex.specs.Pattern.{Pattern, pattern_text, Writes}
-use Rattle.helix_regex.specs.Faults.{AreCharacters, bad_anchors, bad_ranges, bad_counts, is_too_large, first_of, least_of, lesser, FirstFault, IsSound}
+use Rattle.helix_regex.specs.Faults.{AreCharacters, bad_anchors, bad_ranges, bad_counts, is_too_large, first_of, least_of, lesser, FirstFault}
 use Rattle.helix_regex.specs.Inner.Tokens.{tokens}
 use Rattle.helix_regex.specs.Inner.Rules.{first_rule, token_fault}
 use Rattle.helix_regex.proofs.AnchorRule.{anchors_rule}
 use Rattle.helix_regex.proofs.RangeRule.{ranges_rule}
 use Rattle.helix_regex.proofs.CountRule.{counts_rule}
 use Rattle.helix_regex.proofs.Counted.{size_rule}
+
+-- the pattern breaks no rule
+pub record IsSound (pattern : Pattern) : Type 0 where
+  pub anchors : bad_anchors pattern ≡ []
+  pub ranges : bad_ranges 0 pattern ≡ []
+  pub counts : bad_counts 0 pattern ≡ []
+  pub size : is_too_large pattern ≡ false
 
 no_first : (xs : List ℕ) → first_of xs ≡ None → xs ≡ []
 no_first [] e = refl

@@ -7,12 +7,12 @@ use Rattle.helix_regex.specs.declared.fault.RegexRule.{RegexRule}
 use Rattle.helix_regex.specs.declared.fault.RegexRule.TheVariants as rule
 use Rattle.helix_regex.specs.Pattern.{Pattern, pattern_text, Writes}
 use Rattle.helix_regex.specs.Meaning.{MeansRegex, SpellsPattern}
-use Rattle.helix_regex.specs.Faults.{AreCharacters, bad_anchors, bad_ranges, bad_counts, is_too_large, first_of, least_of, Breaks, FirstFault, IsSound}
+use Rattle.helix_regex.specs.Faults.{AreCharacters, bad_anchors, bad_ranges, bad_counts, is_too_large, first_of, least_of, Breaks, FirstFault}
 use Rattle.helix_regex.specs.Inner.Tokens.{tokens}
 use Rattle.helix_regex.specs.Inner.Rules.{token_fault}
 use Rattle.helix_regex.proofs.ReadingPatterns as reading
 use Rattle.helix_regex.proofs.Scanned.{character_at}
-use Rattle.helix_regex.proofs.Faulty.{pattern_fault, found_is, found_fault, found_none}
+use Rattle.helix_regex.proofs.Faulty.{pattern_fault, found_is, found_fault, found_none, IsSound}
 
 -- a pattern's text has only the faults that its rules find
 no_least : (xs : List ℕ) (at : ℕ) → xs ≡ [] → least_of xs ≢ Some at

@@ -120,7 +120,8 @@ no_pattern text p e w = let f : None ≡ Some (at_place (after begin p) []) = sy
     ∙ (ap (run start) w.is ∙ reads_all p w.fits) in cc
 
 viable : (prefix : List ℕ) (p : Position) → Scanned prefix p → IsViablePrefix IsPatternText prefix
-viable prefix p h = subst (IsViablePrefix IsPatternText) h.is (ends_viable (written h.state) (state_ends h.state h.fine))
+viable prefix p h = subst (IsViablePrefix IsPatternText) h.is
+    (ends_viable (written h.state) (state_ends h.state h.fine))
 
 pub prefix_of : (codes : List ℕ) (i more : ℕ) → i < more → more ≤ length codes
     → take more codes ≡ (take i codes ++ get_or codes i 0 ∷ []) ++ take (more - (i + 1)) (drop (i + 1) codes)

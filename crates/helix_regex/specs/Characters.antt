@@ -19,7 +19,7 @@ is_letter c = (nat_le 65 c && nat_le c 90) || (nat_le 97 c && nat_le c 122)
 abbrev pub is_literal : ℕ → Bool
 is_literal c = is_character c && not (is_among (codes "\\^$.|?*+()[{") c)
 
--- after a backslash, a character from U+0021 to U+007E that is no letter and no digit stands for itself
+-- after a backslash, a character from U+0021 to U+007E that is no letter and no digit means itself
 abbrev pub is_punct : ℕ → Bool
 is_punct c = (nat_le 33 c && nat_le c 126) && not (is_letter c || is_digit c)
 
@@ -27,7 +27,7 @@ is_punct c = (nat_le 33 c && nat_le c 126) && not (is_letter c || is_digit c)
 abbrev pub is_set_letter : ℕ → Bool
 is_set_letter c = is_among (codes "dwsDWS") c
 
--- in a class, a character other than `\`, `[`, `]` and `-` stands for itself
+-- in a class, a character other than `\`, `[`, `]` and `-` means itself
 abbrev pub is_class_char : ℕ → Bool
 is_class_char c = is_character c && not (is_among (codes "\\[]-") c)
 

@@ -1,4 +1,4 @@
--- The rules of a pattern in the order in which they are tested, and the place of the first that is broken.
+-- The rules of a pattern in the order in which they are tested, and the offset of the first that is broken.
 use Rattle.std.specs.Prelude.{◌≡◌, ℕ, ◌+◌, ◌*◌, ◌<◌, ◌≤◌, ◌||◌, nat_lt, min, max, if◌then◌else◌, Bool, true, false, IsTrue, Option, Some, None, List, [], ◌∷◌, ◌++◌, length, take, slice_index}
 use Rattle.helix_regex.specs.declared.fault.RegexFault.{RegexFault}
 use Rattle.helix_regex.specs.declared.fault.RegexRule.{RegexRule}
@@ -53,7 +53,7 @@ outer_bars at (dollar p) = outer_bars (at + 1) p
 outer_bars at (one s q p) = outer_bars (at + length (piece_text s q)) p
 outer_bars at (group bare inner q p) = outer_bars (at + length (group_text bare inner q)) p
 
--- offsets at which the rule on anchors is broken: a `|` outside of every group breaks it where there is an anchor anywhere
+-- offsets at which the rule on anchors is broken: a `|` outside of every group breaks it where there is any anchor
 abbrev pub bad_anchors : Pattern → List ℕ
 bad_anchors pattern = stray_anchors (length (pattern_text pattern)) 0 pattern
     ++ (if has_caret pattern || has_dollar pattern then outer_bars 0 pattern else [])
@@ -160,10 +160,3 @@ Breaks rule.TooLarge text at = AreCharacters text
 -- the first rule that a text breaks, and where
 abbrev pub FirstFault : List ℕ → RegexFault → Type 0
 FirstFault text fault = Breaks fault.rule text fault.at
-
--- the pattern breaks no rule
-pub record IsSound (pattern : Pattern) : Type 0 where
-  pub anchors : bad_anchors pattern ≡ []
-  pub ranges : bad_ranges 0 pattern ≡ []
-  pub counts : bad_counts 0 pattern ≡ []
-  pub size : is_too_large pattern ≡ false

@@ -1,4 +1,4 @@
--- The expression that a pattern stands for, over the characters of Unicode.
+-- The expression that a pattern means, over the characters of Unicode.
 use Rattle.std.specs.Prelude.{◌≡◌, ℕ, ◌+◌, ◌*◌, ◌-◌, ◌==◌, ◌&&◌, ◌||◌, not, nat_le, nat_lt, Bool, true, false, IsTrue, Some, None, List, [], ◌∷◌}
 use Rattle.std.specs.List.{list_any}
 use Rattle.helix_base.specs.Ranges.{in_ranges}
@@ -113,7 +113,7 @@ has_dollar (dollar p) = true
 has_dollar (one s q p) = has_dollar p
 has_dollar (group bare inner q p) = has_dollar inner || has_dollar p
 
--- the expression that a pattern stands for, with its anchors
+-- the expression that a pattern means, with its anchors
 abbrev pub MeansRegex : Pattern → Regex → Type 0
 MeansRegex pattern regex = (parts : Parts) × HasParts pattern parts
     × (regex ≡ record { expr = together parts; at_start = has_caret pattern; at_end = has_dollar pattern })

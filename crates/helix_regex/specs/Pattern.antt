@@ -45,9 +45,9 @@ pub data Quant : Type 0 where
   once : Quant
   times : Count → Bool → Quant
 
--- what alternatives and their sequences are made of, from left to right: nothing more; a bar, an anchor, a single atom
--- with
--- its quantifier, or a group with its, and what stands after it. A truth value says whether a group begins with `(?:`
+-- what alternatives and their sequences are made of, from left to right: nothing more; or a bar, an anchor, a single
+-- atom with its quantifier, or a group with its, and then the rest. A truth value says whether a group begins with
+-- `(?:`
 pub data Pattern : Type 0 where
   end : Pattern
   bar : Pattern → Pattern

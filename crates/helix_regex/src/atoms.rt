@@ -8,11 +8,10 @@ ghost use Rattle.helix_regex.specs.Meaning.{are_separate, AreRangesOf};
 ghost use Rattle.helix_regex.specs.Inner.Building.{class_has, PushesSet, Gained};
 
 use crate::builder::{Builder, push_piece};
-use helix_expr::Expr;
 use crate::joined::separated;
-use helix_expr::Ranges;
 use crate::sets::{push_clipped, push_gaps, push_one, push_set};
 use helix_base::Memory;
+use helix_expr::{Expr, Ranges};
 use std::alloc::Global;
 
 fn push_chars(alloc: Global, builder: Builder, raw: Vec<(u32, u32)>) -> Result<Builder, Memory>

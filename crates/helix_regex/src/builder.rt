@@ -5,19 +5,19 @@ ghost use Rattle.helix_regex.specs.Meaning.{in_sequence};
 ghost use Rattle.helix_regex.specs.Inner.Building.{choice, Steps, Pushes, Opens, Ends};
 ghost use Rattle.helix_regex.specs.declared.token.Token.TheVariants.{Close, Repeat};
 
-use helix_expr::{Expr, Exprs};
 use helix_base::Memory;
+use helix_expr::{Expr, Exprs};
 use sqlite_items::{Boxed, Items};
 use std::alloc::Global;
 
-/// What stands before an open group: the sequences after which a bar stands, and the pieces after them.
+/// What is before an open group: the sequences that a bar ended, and the pieces after them.
 #[derive(Debug, Drop)]
 pub struct Level {
     pub done: Exprs,
     pub pieces: Exprs,
 }
 
-/// What is built: the levels around the innermost open group, the innermost last; what stands in that group; and the
+/// What is built: the levels around the innermost open group, the innermost last; what is in that group; and the
 /// class
 /// that is being read, as ranges in any order, and whether they are excluded.
 #[derive(Debug, Drop)]
@@ -101,7 +101,7 @@ pub fn push_piece(builder: Builder, piece: Expr) -> Result<Builder, Memory>
     Ok(builder)
 }
 
-/// Begins a group, around which what is built so far stands.
+/// Begins a group inside of what is built so far.
 pub fn open_group(alloc: Global, builder: Builder) -> Result<Builder, Memory>
     ensures { IfOk result (Opens builder) }
 {
@@ -122,7 +122,7 @@ pub fn open_group(alloc: Global, builder: Builder) -> Result<Builder, Memory>
     })
 }
 
-/// Puts a group in as one piece of what stands around it.
+/// Puts a group in as one piece of what is around it.
 pub fn close_group(builder: Builder) -> Result<Builder, Memory>
     ensures { IfOk result (Steps builder Close) }
 {
@@ -159,7 +159,7 @@ pub fn close_group(builder: Builder) -> Result<Builder, Memory>
     }
 }
 
-/// Ends a sequence, after which a bar stands.
+/// Ends a sequence at a bar.
 pub fn end_sequence(alloc: Global, builder: Builder) -> Result<Builder, Memory>
     ensures { IfOk result (Ends builder) }
 {

@@ -1,4 +1,4 @@
-//! What a character is to the scanner, by where it stands.
+//! The kind of a character, outside and inside of escapes, counts and classes.
 
 ghost use Rattle.std.specs.Prelude.{◌≡◌, IsTrue};
 ghost use Rattle.helix_base.specs.Digits.{is_digit};
@@ -135,7 +135,7 @@ fn is_letter(code: u32) -> bool
     'A' as u32 <= code && code <= 'Z' as u32 || 'a' as u32 <= code && code <= 'z' as u32
 }
 
-/// Whether an ASCII character stands for itself after a backslash.
+/// Whether an ASCII character means itself after a backslash.
 fn is_punct(code: u32) -> bool
     ensures { result ≡ is_punct code }
 {

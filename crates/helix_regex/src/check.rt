@@ -15,7 +15,7 @@ use crate::token::Token;
 use helix_base::Alphabet;
 use std::alloc::{AllocError, Global};
 
-/// How many characters stand before the first that is none of the alphabet.
+/// Index of the first character outside the alphabet.
 fn outside_alphabet(codes: &[u32]) -> Option<usize>
     ensures some { IfSome result (IsFirstOutside codes.now) }
     ensures none { IfNone result (AreCharacters codes.now) }
@@ -49,7 +49,7 @@ pub fn text_fault(codes: &[u32]) -> Option<RegexFault>
     }
 }
 
-/// The least place at which the rule on anchors is broken, in a pattern of so many characters.
+/// Least offset at which the rule on anchors is broken, in a pattern of `size` characters.
 fn bad_anchor(tokens: &[Token], size: usize) -> Option<usize>
     ensures { result ≡ anchors_found (least_some (stray_at size) tokens.now) (list_any is_caret tokens.now
         || list_any is_dollar tokens.now) (outer_bar 0 tokens.now) }
@@ -87,7 +87,7 @@ fn first_rule(
     })
 }
 
-/// The fault of a pattern of so many characters, from its tokens.
+/// The fault of a pattern of `size` characters, from its tokens.
 pub fn token_fault(
     alloc: Global,
     tokens: &[Token],

@@ -8,7 +8,7 @@ ghost use Rattle.helix_regex.specs.declared.scanner_state.ScannerState.TheVarian
 use crate::char_kind::{ClassKind, EscapeKind, class_kind_of, escape_kind_of};
 use crate::scanner_state::{Advance, ClassState, ScannerState};
 
-/// What a character of a class does. Two `&` may not stand side by side.
+/// What a character of a class does. A second `&` beside another is refused.
 pub fn next_in_class(class: ClassState, before: u32, code: u32) -> Advance
     requires { IsTrue (is_character code) }
     ensures { result ≡ scanner_step (Class class before) code }

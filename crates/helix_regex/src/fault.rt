@@ -9,7 +9,7 @@ pub enum RegexRule {
     OutsideAlphabet,
     /// The pattern is in the grammar.
     Syntax,
-    /// `^` stands first and `$` last, and no `|` outside of groups stands beside them.
+    /// `^` is first and `$` last, and there is no `|` outside of groups beside them.
     Anchor,
     /// No range of a class is reversed.
     BadRange,
@@ -19,7 +19,7 @@ pub enum RegexRule {
     TooLarge,
 }
 
-/// The first broken rule, and its place as a character's number from 0.
+/// The first broken rule, and its offset in characters.
 #[derive(Clone, Copy, Debug, PartialEq, Eq)]
 pub struct RegexFault {
     pub rule: RegexRule,

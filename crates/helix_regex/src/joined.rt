@@ -5,8 +5,8 @@ ghost use Rattle.helix_base.specs.Ranges.{in_ranges};
 ghost use Rattle.helix_regex.specs.Meaning.{AreRangesOf};
 ghost use Rattle.helix_regex.specs.Inner.Sets.{Ascending, touches, joined, joined_from};
 
-use helix_expr::Ranges;
 use helix_base::Memory;
+use helix_expr::Ranges;
 use std::alloc::Global;
 
 /// Puts ranges into the order of their first codes.

@@ -3,14 +3,14 @@
 //! ```
 //! let text = Text::of(alloc, "^[A-Z]{2}-\\d+$")?;
 //! match parse(alloc, &text) {
-//!     Ok(regex) => ..,                        // the expression, and whether its start and end are bound
+//!     Ok(regex) => ..,                        // the expression with its anchors
 //!     Err(RegexError::Fault(fault)) => ..,    // fault.rule is broken at character fault.at
 //!     Err(RegexError::Memory) => ..,          // out of memory: no rule is known to be broken
 //! }
 //! ```
 //!
-//! - [`parse`] gives the one expression that the text spells (`SpellsPattern` of `specs/Meaning.antt`), and then no rule
-//!   is broken. A fault is the first of the six rules that is broken, at its offset in characters (`FirstFault` of
+//! - [`parse`] gives the one expression that the text spells (`SpellsPattern` of `specs/Meaning.antt`), and then no
+//!   rule is broken. A fault is the first of the six rules that is broken, at its offset in characters (`FirstFault` of
 //!   `specs/Faults.antt`); a syntax error is at the end of the longest viable prefix.
 //! - A text writes at most one pattern, spells at most one expression and has at most one first fault ([`one_pattern`],
 //!   [`one_regex`], [`one_fault`]).

@@ -10,12 +10,11 @@ use crate::assembly::build;
 use crate::check::{text_fault, token_fault};
 use crate::fault::{RegexError, RegexFault};
 use crate::lexer::tokens_of;
-use helix_expr::Regex;
 use helix_base::{Memory, Text};
+use helix_expr::Regex;
 use std::alloc::Global;
 
-/// The expression that a pattern spells, or the first rule that it breaks. Text and nesting may be of any length and
-/// depth.
+/// The expression that a pattern spells, or the first rule that it breaks. The text may be of any length and nesting.
 pub fn parse(alloc: Global, text: &Text) -> Result<Regex, RegexError>
     ensures spelt { IfOk result (λ regex. SpellsPattern text.now regex) }
     ensures sound { IfOk result (λ regex. (fault : Broken) → ¬ (FirstFault text.now fault)) }
@@ -28,7 +27,7 @@ pub fn parse(alloc: Global, text: &Text) -> Result<Regex, RegexError>
     }
 }
 
-/// The same from code points, where want of memory stands apart.
+/// The same from code points, with running out of memory as an error of its own.
 fn read(alloc: Global, codes: &[u32]) -> Result<Result<Regex, RegexFault>, Memory>
     ensures spelt { IfOk result (λ answer. IfOk answer (λ regex. SpellsPattern codes.now regex)) }
     ensures sound { IfOk result (λ answer. IfOk answer (λ regex. (fault : Broken) → ¬ (FirstFault codes.now fault))) }

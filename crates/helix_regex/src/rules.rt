@@ -23,7 +23,7 @@ fn reversed_at(token: Token) -> Option<usize>
     }
 }
 
-/// Where the first range stands that is reversed.
+/// Offset of the first reversed range.
 pub fn reversed_range(tokens: &[Token]) -> Option<usize>
     ensures { result ≡ first_some reversed_at tokens.now }
 {
@@ -53,7 +53,7 @@ fn miscounted_at(token: Token) -> Option<usize>
     }
 }
 
-/// Where the first count stands that has a number above 1,000, or a second one below the first.
+/// Offset of the first count with a number above 1,000, or a second one below the first.
 pub fn miscount(tokens: &[Token]) -> Option<usize>
     ensures { result ≡ first_some miscounted_at tokens.now }
 {
@@ -85,7 +85,7 @@ pub fn lesser(a: Option<usize>, b: Option<usize>) -> Option<usize>
     }
 }
 
-/// The least place of an anchor that stands neither first nor last, where it has to.
+/// Least offset of a `^` that is not first, or a `$` that is not last.
 pub fn stray_anchor(tokens: &[Token], size: usize) -> Option<usize>
     ensures { result ≡ least_some (stray_at size) tokens.now }
 {
@@ -146,7 +146,7 @@ fn bar_at(depth: usize, token: Token) -> Option<usize>
     }
 }
 
-/// Where the first `|` stands outside of every group.
+/// Offset of the first `|` outside of every group.
 pub fn outer_bar(tokens: &[Token]) -> Option<usize>
     ensures { result ≡ outer_bar 0 tokens.now }
 {
@@ -160,8 +160,8 @@ pub fn outer_bar(tokens: &[Token]) -> Option<usize>
     None
 }
 
-/// How many groups are open at once.
-#[tactic(auto, using(crate::proofs::Deep::deepest_least, crate::proofs::Deep::level_most, crate::proofs::Deep::deepest_more))]
+/// The nesting of groups.
+#[tactic(auto, using(crate::proofs::Deep::deepest_least, crate::proofs::Deep::level_most, crate::proofs::Deep::deepest_more,))]
 pub fn deepest(tokens: &[Token]) -> usize
     ensures { result ≡ deepest 0 tokens.now }
 {

@@ -9,7 +9,7 @@ use crate::char_kind::{
 };
 use crate::class_state::next_in_class;
 
-/// What stands before the next character.
+/// The state between two characters, named for what was read last.
 #[derive(Clone, Copy, Debug)]
 pub enum ScannerState {
     /// Nothing that a quantifier could repeat.
@@ -36,7 +36,7 @@ pub enum ScannerState {
     Class(ClassState, u32),
 }
 
-/// What stands before the next character of a class.
+/// The state in a class.
 #[derive(Clone, Copy, Debug)]
 pub enum ClassState {
     /// The `[`.
@@ -96,7 +96,7 @@ fn stay_if(test: bool, scanner_state: ScannerState) -> Advance
     }
 }
 
-/// Where nothing stands that could be repeated.
+/// After what no quantifier can repeat.
 fn next_settled(char_kind: CharKind) -> Advance
     ensures { result ≡ settled_advance char_kind }
 {

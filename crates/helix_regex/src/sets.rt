@@ -7,8 +7,8 @@ ghost use Rattle.helix_regex.specs.Characters.{is_character, is_word, set_has};
 ghost use Rattle.helix_regex.specs.Meaning.{are_separate, AreRangesOf};
 ghost use Rattle.helix_regex.specs.Inner.Sets.{Gains, GainsAllBut};
 
-use helix_expr::Ranges;
 use helix_base::Memory;
+use helix_expr::Ranges;
 use std::alloc::{AllocError, Global};
 
 /// Appends the codes from one to another.

@@ -65,7 +65,8 @@ fn positions(alloc: Global, tokens: &[Token]) -> Result<u32, AllocError>
 
 /// Whether a pattern has more than 5,000 positions, or groups nested more than 64 deep.
 pub fn is_too_large(alloc: Global, tokens: &[Token]) -> Result<bool, AllocError>
-    ensures { IfOk result (λ large. large ≡ (nat_lt 5000 (total [] 0 0 tokens.now) || nat_lt 64 (deepest 0 tokens.now))) }
+    ensures { IfOk result (λ large. large
+        ≡ (nat_lt 5000 (total [] 0 0 tokens.now) || nat_lt 64 (deepest 0 tokens.now))) }
 {
     let positions = positions(alloc, tokens)?;
     let deepest = deepest(tokens);

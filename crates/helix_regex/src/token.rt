@@ -10,7 +10,7 @@ pub enum Token {
     /// `(` or `(?:`.
     Open,
     Close,
-    /// A character that stands for itself.
+    /// A character that means itself.
     Literal(u32),
     Dot,
     /// `\` and a letter that names a set.

@@ -62,12 +62,12 @@ abbrev pub bar_at : ℕ → Token → Option ℕ
 bar_at d (token.Bar at) = some_if (d == 0) at
 bar_at d _ = None
 
--- the first bar outside of groups, where so many are open before
+-- the first bar outside of groups, where d are open before
 abbrev pub outer_bar : ℕ → List Token → Option ℕ
 outer_bar d [] = None
 outer_bar d (t ∷ ts) = or_else (bar_at d t) (outer_bar (level d t) ts)
 
--- the most groups that are open at once, where so many are open before
+-- the nesting of groups, where d are open before
 abbrev pub deepest : ℕ → List Token → ℕ
 deepest d [] = d
 deepest d (t ∷ ts) = max d (deepest (level d t) ts)

@@ -1,5 +1,5 @@
 use Rattle.std.proofs.Common.{false}
-use Rattle.helix_expr.specs.Matching.{BeginsMatch}
+use Rattle.helix_expr.specs.Inner.Splitting.{BeginsMatch}
 use Rattle.helix_expr.proofs.Parts.{found_prefix, no_prefix, is_so, is_not_so}
 use Rattle.helix_expr.proofs.containing.begins_somehow.Goals as goal
 

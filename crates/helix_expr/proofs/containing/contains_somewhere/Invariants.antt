@@ -1,5 +1,5 @@
 use Rattle.std.proofs.Common.{ℕ, ◌<◌, drop}
-use Rattle.helix_expr.specs.Matching.{BeginsMatch}
+use Rattle.helix_expr.specs.Inner.Splitting.{BeginsMatch}
 use Rattle.helix_expr.proofs.containing.contains_somewhere.Given as goal
 
 abbrev pub invariant-loop-cut : goal.invariant-loop-cut

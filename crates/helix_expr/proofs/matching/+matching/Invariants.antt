@@ -1,5 +1,6 @@
 use Rattle.std.proofs.Common.{◌↔◌, ℕ, ◌+◌, ◌-◌, ◌*◌, ◌<◌, ◌≤◌, length, take, drop}
-use Rattle.helix_expr.specs.Matching.{Matches, MatchInOrder, MatchSome, SplitsAt}
+use Rattle.helix_expr.specs.Matching.{Matches, MatchInOrder, MatchSome}
+use Rattle.helix_expr.specs.Inner.Splitting.{SplitsAt}
 use Rattle.helix_expr.proofs.matching.+matching.Given as goal
 
 abbrev pub decreases-matches : goal.decreases-matches
