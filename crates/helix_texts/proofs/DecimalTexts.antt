@@ -20,7 +20,7 @@ record IsNumeralOf (n : ℕ) (ds : List ℕ) : Type 0 where
   begins : BeginsWell n ds
 
 one_digit : (n : ℕ) → n < 10 → IsNumeralOf n ((48 + n) ∷ [])
-one_digit n small = record { digits = ((omega arith, omega arith), tt); value = omega arith; begins = ((λ some is. omega arith), λ h. refl) }
+one_digit n small = record { digits = (digit_within (48 + n) (omega arith) (omega arith), tt); value = omega arith; begins = ((λ some is. omega arith), λ h. refl) }
 
 begins_more : (n : ℕ) (ds : List ℕ) (c : ℕ) → 10 ≤ n → BeginsWell (n / 10) ds → BeginsWell n (ds ++ c ∷ [])
 begins_more n [] c large begins = absurd begins
@@ -28,7 +28,7 @@ begins_more n (d ∷ ds) c large begins = ((λ some. begins.0 (omega arith)), λ
 
 one_more : (n : ℕ) (ds : List ℕ) → 10 ≤ n → IsNumeralOf (n / 10) ds → IsNumeralOf n (ds ++ (48 + n % 10) ∷ [])
 one_more n ds large front = record {
-  digits = digits_push ds (48 + n % 10) front.digits (digit_within _ (omega arith) (omega arith));
+  digits = digits_push ds (48 + n % 10) front.digits (digit_within (48 + n % 10) (omega arith) (omega arith));
   value = from-append 0 ds ((48 + n % 10) ∷ []) ∙ omega (arith, front.value);
   begins = begins_more n ds (48 + n % 10) large front.begins;
 }
@@ -59,7 +59,7 @@ last_digits-suc width n = refl
 pub last_digits_are : (width n : ℕ) → AreDigits (last_digits width n)
 unfolding last_digits
 last_digits_are zero n = tt
-last_digits_are (suc width) n = digits_push (last_digits width (n / 10)) (48 + n % 10) (last_digits_are width (n / 10)) (digit_within _ (omega arith) (omega arith))
+last_digits_are (suc width) n = digits_push (last_digits width (n / 10)) (48 + n % 10) (last_digits_are width (n / 10)) (digit_within (48 + n % 10) (omega arith) (omega arith))
 
 -- so many digits add the remainder to what stands before them
 pub last_digits-from : (width x n : ℕ) → digits_from x (last_digits width n) ≡ x * 10 ^ width + n % 10 ^ width

@@ -16,6 +16,7 @@ use Rattle.helix_texts.proofs.DecimalTexts.{last_digits_are, last_digits-from}
 use Rattle.helix_texts.proofs.FixedDigits.{same_numbers, length-last_digits}
 use Rattle.helix_ladders.proofs.LadderSteps.{month_bound}
 use Rattle.helix_ladders.proofs.DaysHaveDates.{day_has_date}
+use Rattle.helix_base.specs.Inner.DigitLaws.{digit_bounds}
 
 -- two lists of three numbers with one text in front are one
 pub record AreSameThrees (a b c a₂ b₂ c₂ : ℕ) (rest rest₂ : List ℕ) : Type 0 where
@@ -41,7 +42,7 @@ small_date y m d date = (omega (arith, date.year_to_9999), omega (arith, date.mo
 
 -- and so are two times
 zulu_begins : (zulu : Bool) → NoDigit (zulu_text zulu)
-zulu_begins true = λ d. omega arith
+zulu_begins true = λ d. let b : (48 ≤ 90) × (90 ≤ 57) = digit_bounds 90 d in omega arith
 zulu_begins false = tt
 
 head_is : {c d : ℕ} {a b : List ℕ} → c ∷ a ≡ d ∷ b → c ≡ d

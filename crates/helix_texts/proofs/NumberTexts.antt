@@ -70,11 +70,12 @@ whole_digits (c ∷ cs) whole = (whole.0, whole.1)
 
 exponent_begins : (e : Exponent) → IsExponent e → NoDigit (exponent_text e)
 exponent_begins no_exponent is = tt
-exponent_begins (power mark sign digits) is = λ d. elim is.0 [ inl e ↦ omega arith | inr e ↦ omega arith ]
+exponent_begins (power mark sign digits) is = λ d.
+    let b : (48 ≤ mark) × (mark ≤ 57) = digit_bounds mark d in elim is.0 [ inl e ↦ omega arith | inr e ↦ omega arith ]
 
 behind_begins : (fraction : List ℕ) (e : Exponent) → IsExponent e → NoDigit (fraction_text fraction ++ exponent_text e)
 behind_begins [] e is = exponent_begins e is
-behind_begins (c ∷ cs) e is = λ d. omega arith
+behind_begins (c ∷ cs) e is = λ d. let b : (48 ≤ 46) × (46 ≤ 57) = digit_bounds 46 d in omega arith
 
 no_point : (e : Exponent) → IsExponent e → (more : List ℕ) → exponent_text e ≢ 46 ∷ more
 no_point no_exponent is more begins = cc

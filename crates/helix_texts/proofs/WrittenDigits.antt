@@ -7,6 +7,7 @@ use Rattle.helix_json.specs.Inner.DecimalLaws.{pow_more}
 use Rattle.helix_texts.specs.Texts.{last_digits}
 use Rattle.helix_texts.proofs.DecimalTexts.{last_digits-zero}
 use Rattle.helix_texts.proofs.FixedDigits.{last_digits-front}
+use Rattle.helix_base.specs.Inner.DigitLaws.{digit_bounds}
 
 -- what is added above the last digits leaves them
 same_last : (width k n : ℕ) → last_digits width (k * 10 ^ width + n) ≡ last_digits width n
@@ -32,9 +33,10 @@ pub digits_write : (ds : List ℕ) → AreDigits ds → (n : ℕ) × (n < 10 ^ l
 digits_write [] digits = (0, omega arith, sym (last_digits-zero 0))
 digits_write (d ∷ ds) digits =
     let rest = digits_write ds digits.1 in
-    let first : 48 + ((d - 48) * 10 ^ length ds + rest.0) / 10 ^ length ds % 10 ≡ d = omega (arith, first_digit (length ds) (d - 48) rest.0 rest.1 (omega (arith, digits.0.1)), digits.0.0) in (
+    let bounds : (48 ≤ d) × (d ≤ 57) = digit_bounds d digits.0 in
+    let first : 48 + ((d - 48) * 10 ^ length ds + rest.0) / 10 ^ length ds % 10 ≡ d = omega (arith, first_digit (length ds) (d - 48) rest.0 rest.1 (omega (arith, bounds.1)), bounds.0) in (
       (d - 48) * 10 ^ length ds + rest.0,
-      one_more (length ds) (d - 48) rest.0 rest.1 (omega (arith, digits.0.1)),
+      one_more (length ds) (d - 48) rest.0 rest.1 (omega (arith, bounds.1)),
       ap (λ l. d ∷ l) (rest.2 ∙ sym (same_last (length ds) (d - 48) rest.0))
           ∙ (ap (λ c. c ∷ last_digits (length ds) ((d - 48) * 10 ^ length ds + rest.0)) (sym first)
           ∙ sym (last_digits-front (length ds) ((d - 48) * 10 ^ length ds + rest.0))),
