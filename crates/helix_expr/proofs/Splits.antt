@@ -19,7 +19,7 @@ none_in_order part parts word none (prefix, rest, split, first, others) =
     (subst (λ w. Matches part w) (sym (ap (take (length prefix)) split ∙ take-append_seam prefix rest)) first)
     (subst (MatchInOrder parts) (sym (ap (drop (length prefix)) split ∙ drop-append_seam prefix rest)) others)
 
--- one more word in prefix
+-- one more word at the start
 more_in_limit : (most : Option ℕ) (count : ℕ) → most ≢ Some 0 → UpTo (option_map (λ limit. limit - 1) most) count
     → UpTo most (suc count)
 more_in_limit None count some high = tt

@@ -64,7 +64,7 @@ fn matches_repeated(part: &Expr, least: u32, most: Option<u32>, word: &[u32]) ->
     } else if word.is_empty() {
         true
     } else {
-        // Empty words in prefix add nothing where none are asked for.
+        // Empty words at the start add nothing where none are asked for.
         splits_off(part, 0, fewer, 1, word)
     }
 }

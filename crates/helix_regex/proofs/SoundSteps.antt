@@ -52,7 +52,7 @@ far_keeps : (n : Bool) (is : List Item) (e : End) (s : EscapeKind) (c : ℕ) →
 far_keeps n is e escape_is.Itself c = refl
 far_keeps n is e _ c = tt
 
--- a text with a caret in prefix, or none, and what is after it
+-- a text that begins with a caret, or doesn't, and what is after it
 begins_more : (t u : List ℕ) → BeginsWithCaret t → BeginsWithCaret (t ++ u)
 begins_more [] u h = absurd h
 begins_more (c ∷ cs) u h = h

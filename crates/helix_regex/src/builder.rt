@@ -18,8 +18,7 @@ pub struct Level {
 }
 
 /// What is built: the levels around the innermost open group, the innermost last; what is in that group; and the
-/// class
-/// that is being read, as ranges in any order, and whether they are excluded.
+/// class that is being read, as ranges in any order, and whether they are excluded.
 #[derive(Debug, Drop)]
 pub struct Builder {
     pub outer: Items<Level>,
