@@ -1,5 +1,5 @@
 //! The program helix: it hands the words of its command line, the files and the console to the run, and ends with
-//! the number of the status that the run answers. Ending 8 says that memory was wanting, and 9 that the system gave
+//! the number of the status that the run answers. Ending 8 says that memory ran out, and 9 that the system gave
 //! a word that isn't text, or no words.
 #![tactic(auto)]
 

@@ -9,7 +9,7 @@ use Rattle.std.specs.Cmp.Lexicographic.{slice_cmp, nat_list_cmp_total}
 use Rattle.std.specs.FinMap.{find, get, insert, from_entries, get-from_entries, from_entries_push}
 use Rattle.helix_outside.specs.Files.{FileMap, content, appended}
 use Rattle.helix_outside.specs.FileLaws.{one_name, same_name, insert_again, insert_swap}
-use Rattle.helix_outside.specs.Entries.{pair_of, files_of, bytes_of, bytes_at, IsPlace}
+use Rattle.helix_outside.specs.Entries.{pair_of, files_of, bytes_of, bytes_at, IsIndex}
 use Rattle.helix_outside.specs.declared.entries.Entry.{Entry}
 
 -- a name with its bytes
@@ -84,31 +84,31 @@ module _ (entries : List Entry) (name : List ℕ) where
       ∙ ap (λ (es : List Entry). found name (map pair_of es)) (sym (take_all i entries (omega arith)))
       ∙ none
 
-  module _ (place : ℕ) (is : IsPlace entries name place) where
-    pair_at : (d : Entry) → get_or (map pair_of entries) place (pair_of d) ≡ pair_of (get_or entries place d)
-    pair_at d = get_or-map pair_of entries place d (pair_of d) is.within
+  module _ (index : ℕ) (is : IsIndex entries name index) where
+    pair_at : (d : Entry) → get_or (map pair_of entries) index (pair_of d) ≡ pair_of (get_or entries index d)
+    pair_at d = get_or-map pair_of entries index d (pair_of d) is.within
 
-    within : place < length (map pair_of entries)
+    within : index < length (map pair_of entries)
     within = omega (arith, length-map entries pair_of, is.within)
 
-    named : (d : Entry) → (get_or (map pair_of entries) place (pair_of d)).0 ≡ name
+    named : (d : Entry) → (get_or (map pair_of entries) index (pair_of d)).0 ≡ name
     named d = ap (λ (e : Pair). e.0) (pair_at d) ∙ is.named d
 
-    first : found name (take place (map pair_of entries)) ≡ None
-    first = ap (found name) (take-map pair_of place entries) ∙ is.first
+    first : found name (take index (map pair_of entries)) ≡ None
+    first = ap (found name) (take-map pair_of index entries) ∙ is.first
 
-    pub place_get : (d : Entry) → get (files_of entries) name ≡ Some (get_or entries place d).bytes.items
-    place_get d =
+    pub index_get : (d : Entry) → get (files_of entries) name ≡ Some (get_or entries index d).bytes.items
+    index_get d =
         get-from_entries nat_list_cmp_total (map pair_of entries) name
-        ∙ found_first (map pair_of entries) place name (pair_of d) within (named d) first
+        ∙ found_first (map pair_of entries) index name (pair_of d) within (named d) first
         ∙ ap (λ (e : Pair). Some e.1) (pair_at d)
 
-    pub place_set : (e : Entry) → e.name.items ≡ name
-        → files_of (set entries place e) ≡ insert (files_of entries) name e.bytes.items
-    place_set e is_named =
-        ap files (map-set pair_of entries place e
-        ∙ ap (λ n. set (map pair_of entries) place (n, e.bytes.items)) is_named)
-        ∙ files-set (map pair_of entries) place name e.bytes.items (pair_of e) within (named e) first
+    pub index_set : (e : Entry) → e.name.items ≡ name
+        → files_of (set entries index e) ≡ insert (files_of entries) name e.bytes.items
+    index_set e is_named =
+        ap files (map-set pair_of entries index e
+        ∙ ap (λ n. set (map pair_of entries) index (n, e.bytes.items)) is_named)
+        ∙ files-set (map pair_of entries) index name e.bytes.items (pair_of e) within (named e) first
 
   -- a new entry whose name is missing
   pub files_push : (e : Entry) → get (files_of entries) name ≡ None → e.name.items ≡ name
@@ -119,19 +119,19 @@ module _ (entries : List Entry) (name : List ℕ) where
       (sym (get-from_entries nat_list_cmp_total (map pair_of entries) name) ∙ none)
 
 -- the same list under another name
-pub place_in : (a b : List Entry) (name : List ℕ) (place : ℕ) → a ≡ b → IsPlace a name place → IsPlace b name place
-place_in a b name place e is = subst (λ (es : List Entry). IsPlace es name place) e is
+pub index_in : (a b : List Entry) (name : List ℕ) (index : ℕ) → a ≡ b → IsIndex a name index → IsIndex b name index
+index_in a b name index e is = subst (λ (es : List Entry). IsIndex es name index) e is
 
 -- an entry is written with what it had
-pub place_kept : (entries : List Entry) (place : ℕ) (e d : Entry) → place < length entries
-    → e.name.items ≡ (get_or entries place d).name.items → e.bytes.items ≡ (get_or entries place d).bytes.items
-    → files_of (set entries place e) ≡ files_of entries
-place_kept entries place e d within names bytes =
-    let pairs : pair_of e ≡ get_or (map pair_of entries) place (pair_of d) =
-    (λ i. (names i, bytes i)) ∙ sym (get_or-map pair_of entries place d (pair_of d) within) in
-    ap files (map-set pair_of entries place e
-    ∙ ap (set (map pair_of entries) place) pairs
-    ∙ set-get_or (map pair_of entries) place (pair_of d))
+pub index_kept : (entries : List Entry) (index : ℕ) (e d : Entry) → index < length entries
+    → e.name.items ≡ (get_or entries index d).name.items → e.bytes.items ≡ (get_or entries index d).bytes.items
+    → files_of (set entries index e) ≡ files_of entries
+index_kept entries index e d within names bytes =
+    let pairs : pair_of e ≡ get_or (map pair_of entries) index (pair_of d) =
+    (λ i. (names i, bytes i)) ∙ sym (get_or-map pair_of entries index d (pair_of d) within) in
+    ap files (map-set pair_of entries index e
+    ∙ ap (set (map pair_of entries) index) pairs
+    ∙ set-get_or (map pair_of entries) index (pair_of d))
 
 -- bytes appended to those of a file that is there
 pub appended_found : (files : FileMap) (name bytes held : List ℕ) → get files name ≡ Some held → 0 < length bytes
@@ -140,13 +140,13 @@ appended_found files name [] held is some = absurd (omega arith)
 appended_found files name (byte ∷ bytes) held is some =
     ap (λ o. insert files name (unwrap_or o [] ++ byte ∷ bytes)) is
 
--- a place and the end have what the files hold
-pub bytes_at_place : (entries : List Entry) (name : List ℕ) (place : ℕ) → IsPlace entries name place
-    → bytes_at entries place ≡ content (files_of entries) name
-bytes_at_place [] name place is = absurd (omega (arith, is.within))
-bytes_at_place (e ∷ entries) name place is =
-    ap bytes_of (slice_get-get_or (e ∷ entries) place e is.within)
-    ∙ sym (ap (λ o. unwrap_or o []) (place_get (e ∷ entries) name place is e))
+-- an index and the end have what the files hold
+pub bytes_at_index : (entries : List Entry) (name : List ℕ) (index : ℕ) → IsIndex entries name index
+    → bytes_at entries index ≡ content (files_of entries) name
+bytes_at_index [] name index is = absurd (omega (arith, is.within))
+bytes_at_index (e ∷ entries) name index is =
+    ap bytes_of (slice_get-get_or (e ∷ entries) index e is.within)
+    ∙ sym (ap (λ o. unwrap_or o []) (index_get (e ∷ entries) name index is e))
 
 pub bytes_at_end : (entries : List Entry) (name : List ℕ) → get (files_of entries) name ≡ None
     → bytes_at entries (length entries) ≡ content (files_of entries) name

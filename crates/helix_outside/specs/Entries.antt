@@ -13,16 +13,16 @@ pair_of entry = (entry.name.items, entry.bytes.items)
 abbrev pub files_of : List Entry → FileMap
 files_of entries = from_entries (map pair_of entries)
 
--- the entry at this place is the first one with the name
-pub record IsPlace (entries : List Entry) (name : List ℕ) (place : ℕ) : Type 0 where
-  pub within : place < length entries
-  pub named : (d : Entry) → (slice_index_or entries place d).name.items ≡ name
-  pub first : find (slice_cmp nat_cmp) name (map pair_of (take place entries)) ≡ None
+-- the entry at this index is the first one with the name
+pub record IsIndex (entries : List Entry) (name : List ℕ) (index : ℕ) : Type 0 where
+  pub within : index < length entries
+  pub named : (d : Entry) → (slice_index_or entries index d).name.items ≡ name
+  pub first : find (slice_cmp nat_cmp) name (map pair_of (take index entries)) ≡ None
 
--- the bytes of the entry at this place, and none past the end
+-- the bytes of the entry at this index, and none past the end
 abbrev pub bytes_of : Option Entry → List ℕ
 bytes_of None = []
 bytes_of (Some entry) = entry.bytes.items
 
 abbrev pub bytes_at : List Entry → ℕ → List ℕ
-bytes_at entries place = bytes_of (slice_get entries place)
+bytes_at entries index = bytes_of (slice_get entries index)

@@ -3,7 +3,7 @@
 ghost use Rattle.std.specs.Prelude.{◌≡◌, None, OnOk, OnErr, IfSome, IfNone, option_copied};
 ghost use Rattle.std.specs.FinMap.{get, insert};
 ghost use Rattle.helix_outside.specs.Files.{content, appended};
-ghost use Rattle.helix_outside.specs.Entries.{files_of, bytes_at, IsPlace};
+ghost use Rattle.helix_outside.specs.Entries.{files_of, bytes_at, IsIndex};
 
 use helix_base::Memory;
 
@@ -14,9 +14,9 @@ pub(crate) struct Entry {
     pub(crate) bytes: Vec<u8>,
 }
 
-/// The place of the first entry with this name.
-fn place_of(entries: &[Entry], name: &[u8]) -> Option<usize>
-    ensures found { IfSome result (IsPlace entries.now name.now) }
+/// The index of the first entry with this name.
+fn index_of(entries: &[Entry], name: &[u8]) -> Option<usize>
+    ensures found { IfSome result (IsIndex entries.now name.now) }
     ensures missing { IfNone result (get (files_of entries.now) name.now ≡ None) }
 {
     for (i, entry) in entries.iter().enumerate() {
@@ -31,28 +31,28 @@ fn place_of(entries: &[Entry], name: &[u8]) -> Option<usize>
 pub(crate) fn bytes_of<'a>(entries: &'a [Entry], name: &[u8]) -> Option<&'a [u8]>
     ensures { option_copied result ≡ get (files_of entries.now) name.now }
 {
-    match place_of(entries, name) {
-        Some(place) => Some(entries[place].bytes.as_slice()),
+    match index_of(entries, name) {
+        Some(index) => Some(entries[index].bytes.as_slice()),
         None => None,
     }
 }
 
-/// The place of the file of this name, or the end where there is none.
-pub(crate) fn place_or_end(entries: &[Entry], name: &[u8]) -> usize
+/// The index of the file of this name, or the end where there is none.
+pub(crate) fn index_or_end(entries: &[Entry], name: &[u8]) -> usize
     ensures { bytes_at entries.now result ≡ content (files_of entries.now) name.now }
 {
-    match place_of(entries, name) {
-        Some(place) => place,
+    match index_of(entries, name) {
+        Some(index) => index,
         None => entries.len(),
     }
 }
 
-/// What the file at this place holds, and nothing past the end.
-pub(crate) fn bytes_at(entries: &[Entry], place: usize) -> &[u8]
-    ensures { result.now ≡ bytes_at entries.now place }
+/// What the file at this index holds, and nothing past the end.
+pub(crate) fn bytes_at(entries: &[Entry], index: usize) -> &[u8]
+    ensures { result.now ≡ bytes_at entries.now index }
 {
-    if place < entries.len() {
-        entries[place].bytes.as_slice()
+    if index < entries.len() {
+        entries[index].bytes.as_slice()
     } else {
         &[]
     }
@@ -74,9 +74,9 @@ pub(crate) fn set(entries: &mut Vec<Entry>, name: &[u8], bytes: Vec<u8>) -> Resu
     ensures ok { OnOk result (files_of entries.new.items ≡ insert (files_of entries.old.items) name.now bytes.items) }
     ensures err { OnErr result (files_of entries.new.items ≡ files_of entries.old.items) }
 {
-    match place_of(entries.as_slice(), name) {
-        Some(place) => {
-            entries[place].bytes = bytes;
+    match index_of(entries.as_slice(), name) {
+        Some(index) => {
+            entries[index].bytes = bytes;
             Ok(())
         }
         None => add(entries, name, bytes),
@@ -91,9 +91,9 @@ pub(crate) fn append(entries: &mut Vec<Entry>, name: &[u8], bytes: &[u8]) -> Res
     if bytes.is_empty() {
         return Ok(());
     }
-    match place_of(entries.as_slice(), name) {
-        Some(place) => {
-            let entry = &mut entries[place];
+    match index_of(entries.as_slice(), name) {
+        Some(index) => {
+            let entry = &mut entries[index];
             entry.bytes.extend_from_slice(bytes)?;
             Ok(())
         }

@@ -15,7 +15,7 @@ use std::marker::Model;
 /// How far which file was read.
 #[derive(Clone, Copy, Debug, PartialEq, Eq, Hash)]
 struct Reading {
-    place: usize,
+    index: usize,
     position: usize,
 }
 
@@ -41,7 +41,7 @@ impl Model for SteadyDisk {
 
     ghost view = { λ d. record {
       files = files_of d.entries.items;
-      input = option_map (λ r. drop r.position (bytes_at d.entries.items r.place)) d.input;
+      input = option_map (λ r. drop r.position (bytes_at d.entries.items r.index)) d.input;
       writing = d.writing;
       written = d.written;
     } };
@@ -76,8 +76,8 @@ impl Disk for SteadyDisk {
         ensures passes { NeverFails self.old result self.new }
         ensures whole { self.new ≡ reading self.old name.now }
     {
-        let place = entries::place_or_end(self.entries.as_slice(), name.as_bytes());
-        self.input = Some(Reading { place, position: 0 });
+        let index = entries::index_or_end(self.entries.as_slice(), name.as_bytes());
+        self.input = Some(Reading { index, position: 0 });
         Ok(())
     }
 
@@ -92,7 +92,7 @@ impl Disk for SteadyDisk {
     {
         match &mut self.input {
             Some(input) => {
-                let bytes = entries::bytes_at(self.entries.as_slice(), input.place);
+                let bytes = entries::bytes_at(self.entries.as_slice(), input.index);
                 Ok(read_on(bytes, &mut input.position, buffer))
             }
             None => unreachable!(),

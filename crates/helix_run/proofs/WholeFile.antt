@@ -27,7 +27,7 @@ module _ {T E : Type 0} (old begun : DiskState) (name text : List ℕ) (x : T)
   pub was_absent : IsTrue old.told → get old.files name ≡ None
   was_absent told = absent old.told (get old.files name) free told
 
-  -- what stands in the file once a prefix is put
+  -- what the file holds once a prefix is put
   files_after : (now : FileMap) (part : List ℕ) → IsTrue old.told → now ≡ written begun part
       → now ≡ insert old.files name part
   files_after now part told e =

@@ -26,7 +26,7 @@ abbrev pub FailsToRead : DiskState → List ℕ → DiskState → Type 0
 FailsToRead old name new =
     MatchBool (is_missing old name) (new.read_faults ≡ old.read_faults) (Rose old.read_faults new.read_faults)
 
--- why a file was not read: the disk failed, or memory is wanting
+-- why a file was not read: the disk failed, or memory ran out
 abbrev pub StopsReading : DiskState → List ℕ → ReadError → DiskState → Type 0
 StopsReading old name Fault new = FailsToRead old name new
 StopsReading old name Memory new = new.read_faults ≡ old.read_faults

@@ -3,7 +3,7 @@ use Rattle.std.proofs.lemmas.Bool.Decides.{Decides-eqb}
 use Rattle.std.proofs.lemmas.Slice.Eq.{slice_eq-Decides}
 use Rattle.helix_outside.specs.declared.entries.Entry.{Entry}
 use Rattle.helix_outside.proofs.Lookups.{missing_more, missing_all}
-use Rattle.helix_outside.proofs.entries.place_of.Goals as goal
+use Rattle.helix_outside.proofs.entries.index_of.Goals as goal
 
 apart : {r : Bool} {P : Type 0} → Decides r P → r ≡ false → ¬ P
 apart {r} is unequal p = let equal : r ≡ true = is.1 p in cc
