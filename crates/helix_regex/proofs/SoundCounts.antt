@@ -7,6 +7,7 @@ use Rattle.helix_regex.specs.declared.char_kind.EscapeKind.{EscapeKind}
 use Rattle.helix_regex.specs.declared.char_kind.EscapeKind.TheVariants as escape_is
 use Rattle.helix_regex.specs.declared.char_kind.CountKind.{CountKind}
 use Rattle.helix_regex.specs.declared.char_kind.CountKind.TheVariants as count_is
+use Rattle.helix_base.specs.Inner.DigitLaws.{digits_push}
 use Rattle.helix_base.specs.Digits.{is_digit, AreDigits}
 use Rattle.helix_regex.specs.Pattern.{literal, dot, escape, set, Count, star, plus, question, exactly, at_least, between, once, times, Pattern, end, bar, caret, dollar, count_text, quant_text, opening, pattern_text, IsNumeral, FitsCount, Fits, BeginsWithCaret, parts_ampersands}
 use Rattle.helix_regex.proofs.Machine.{append, Atom, alone, grouped, Last, nothing, opened, atom, repeated, settled, Frame, Counting, count_opened, count_least, count_comma, count_most, InClass, class_opened, class_first, class_items, class_one, class_dash, class_last, class_escape, class_far, State, outside, marked, escaping, counting, in_class, close, settled_step, outside_step, marked_step, escape_step, count_step}
@@ -81,16 +82,12 @@ escape_leaves b fs escape_is.Itself c m h k = ((h, k, m), with_atom (alone (esca
 escape_leaves b fs escape_is.Set c m h k = ((h, k, m), with_atom (alone (set c)) b fs ∙ simp append_assoc)
 escape_leaves b fs escape_is.Other c m h k = tt
 
-push_digit : (ds : List ℕ) (c : ℕ) → AreDigits ds → IsTrue (is_digit c) → AreDigits (ds ++ c ∷ [])
-push_digit [] c h m = (m, tt)
-push_digit (d ∷ ds) c h m = (h.0, push_digit ds c h.1 m)
-
 some_digit : (ds : List ℕ) (c : ℕ) → ds ++ c ∷ [] ≢ []
 some_digit [] c e = cc
 some_digit (d ∷ ds) c e = cc
 
 more_numeral : (ds : List ℕ) (c : ℕ) → IsNumeral ds → IsTrue (is_digit c) → IsNumeral (ds ++ c ∷ [])
-more_numeral ds c h m = (some_digit ds c, push_digit ds c h.1 m)
+more_numeral ds c h m = (some_digit ds c, digits_push ds c h.1 m)
 
 one_numeral : (c : ℕ) → IsTrue (is_digit c) → IsNumeral (c ∷ [])
 one_numeral c m = ((λ e. cc), (m, tt))
