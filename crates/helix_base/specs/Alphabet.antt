@@ -19,5 +19,6 @@ is_in_range code range = nat_le range.0 code && nat_le code range.1
 abbrev pub is_character_of : Alphabet → ℕ → Bool
 is_character_of alphabet code = list_any (is_in_range code) (ranges_of alphabet)
 
+-- the same, as a fact
 abbrev pub IsCharacterOf : Alphabet → ℕ → Type 0
 IsCharacterOf alphabet code = IsTrue (is_character_of alphabet code)

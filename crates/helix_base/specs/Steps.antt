@@ -9,9 +9,11 @@ pub record Counted : Type 0 where
   pub domain : ℕ
   pub moves : ℕ
 
+-- nothing is counted yet
 abbrev pub no_steps : Counted
 no_steps = record { domain = 0; moves = 0 }
 
+-- the count of a unit
 abbrev pub count_of : Counted → Step → ℕ
 count_of counts Domain = counts.domain
 count_of counts Move = counts.moves

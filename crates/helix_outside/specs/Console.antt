@@ -2,6 +2,7 @@
 use Rattle.std.specs.Prelude.{◌≡◌, ℕ, ◌≤◌, Bool, false, List, [], ◌∷◌, ◌++◌, length, take, Result, OnOk, OnErr, IsTrue}
 use Rattle.helix_outside.specs.Count.{Counts}
 
+-- what is known of a console
 pub record Screen : Type 0 where
   -- whether the console tells its text
   pub told : Bool

@@ -4,6 +4,7 @@ use Rattle.std.specs.Coded.{Coded, code_by, coded×, coded_ℕ, coded_list}
 use Rattle.helix_base.specs.Count.{raised}
 use Rattle.helix_outside.specs.Console.{Screen}
 
+-- a console in memory: its text, its counts, and the calls that are to fail
 pub record ConsoleInMemory : Type 0 where
   pub text : List ℕ
   pub faults : ℕ

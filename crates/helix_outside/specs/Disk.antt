@@ -4,6 +4,7 @@ use Rattle.std.specs.FinMap.{get, insert}
 use Rattle.helix_outside.specs.Count.{Counts}
 use Rattle.helix_outside.specs.Files.{FileMap, appended}
 
+-- what is known of a disk
 pub record DiskState : Type 0 where
   -- whether the disk tells what its files hold
   pub told : Bool

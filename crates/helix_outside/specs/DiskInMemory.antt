@@ -6,6 +6,7 @@ use Rattle.helix_base.specs.Count.{raised}
 use Rattle.helix_outside.specs.Files.{FileMap}
 use Rattle.helix_outside.specs.Disk.{DiskState}
 
+-- a disk in memory: its files, what is open, its counts, and the calls that are to fail
 pub record DiskInMemory : Type 0 where
   pub files : FileMap
   -- the open input, as what is left of it

@@ -10,6 +10,7 @@ use Rattle.helix_outside.specs.declared.entries.Entry.{Entry}
 abbrev pub pair_of : Entry → List ℕ × List ℕ
 pair_of entry = (entry.name.items, entry.bytes.items)
 
+-- the files that entries hold
 abbrev pub files_of : List Entry → FileMap
 files_of entries = from_entries (map pair_of entries)
 
@@ -24,5 +25,6 @@ abbrev pub bytes_of : Option Entry → List ℕ
 bytes_of None = []
 bytes_of (Some entry) = entry.bytes.items
 
+-- the bytes of the entry at an index
 abbrev pub bytes_at : List Entry → ℕ → List ℕ
 bytes_at entries index = bytes_of (slice_get entries index)

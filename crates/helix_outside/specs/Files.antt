@@ -4,6 +4,7 @@ use Rattle.std.specs.Ordering.{nat_cmp}
 use Rattle.std.specs.Cmp.Lexicographic.{slice_cmp}
 use Rattle.std.specs.FinMap.{FinMap, get, insert}
 
+-- files: a finite map from names to bytes
 abbrev pub FileMap : Type 0
 FileMap = FinMap (slice_cmp nat_cmp) (List ℕ)
 

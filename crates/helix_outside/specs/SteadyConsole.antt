@@ -2,5 +2,6 @@
 use Rattle.std.specs.Prelude.{false, []}
 use Rattle.helix_outside.specs.Console.{Screen}
 
+-- it tells no text, and counts no fault
 abbrev pub steady_screen : Screen
 steady_screen = record { told = false; text = []; faults = 0 }

@@ -5,6 +5,7 @@ use Rattle.std.specs.FinMap as map
 use Rattle.helix_outside.specs.Files.{FileMap, content}
 use Rattle.helix_outside.specs.Disk.{DiskState}
 
+-- a disk that never fails: what is read, whether an output is open, and how many bytes were written
 pub record Steady : Type 0 where
   -- what is read, and never changes
   pub files : FileMap

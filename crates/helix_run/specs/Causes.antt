@@ -38,6 +38,7 @@ pub record ProfileIsRead (words : List (List ℕ)) (files : FileMap) : Type 0 wh
   pub field : Field
   pub has : HasField words files names field
 
+-- the words give no order
 pub record CauseOfUsage (words : List (List ℕ)) (before after : Environment) : Type 0 where
   pub no_order : order_of words ≡ None
   pub disk : DiskUnfailed before after
@@ -48,6 +49,7 @@ pub record CauseOfReadFault (words : List (List ℕ)) (before after : Environmen
   pub unwritten : after.disk.write_faults ≤ before.disk.write_faults
   pub cause : Rose before.disk.read_faults after.disk.read_faults ⊎ LacksProfile words before.disk
 
+-- the profile is refused
 pub record CauseOfRefusal (words : List (List ℕ)) (before after : Environment) : Type 0 where
   pub ordered : IsSome (order_of words)
   pub disk : DiskUnfailed before after

@@ -6,10 +6,12 @@ use Rattle.helix_outside.specs.Console.{Screen}
 use Rattle.helix_run.specs.declared.status.Status.{Status}
 use Rattle.helix_run.specs.Script.{Script}
 
+-- a disk and a console
 pub record Environment : Type 0 where
   pub disk : DiskState
   pub console : Screen
 
+-- these two together
 abbrev pub environment : DiskState → Screen → Environment
 environment disk console = record { disk = disk; console = console }
 

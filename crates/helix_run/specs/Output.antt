@@ -7,6 +7,7 @@ use Rattle.helix_run.specs.Rows.{Flag}
 abbrev pub doubled : ℕ → List ℕ
 doubled byte = if byte == 34 then 34 ∷ 34 ∷ [] else byte ∷ []
 
+-- a text between quotes
 abbrev pub quoted : List ℕ → List ℕ
 quoted text = 34 ∷ (flat_map doubled text ++ 34 ∷ [])
 
@@ -20,6 +21,7 @@ flag_text None = []
 abbrev pub line_of : List (List ℕ) → List ℕ
 line_of parts = join_with_byte 44 parts ++ 10 ∷ []
 
+-- the line of a row
 abbrev pub row_text : List Flag → List ℕ
 row_text row = line_of (map flag_text row)
 

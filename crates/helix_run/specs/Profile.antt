@@ -6,6 +6,7 @@ use Rattle.std.specs.List.{list_all}
 abbrev pub longest_profile : ℕ
 longest_profile = 1048576
 
+-- one boolean field: its name, and whether it may be null
 pub record Field : Type 0 where
   pub name : List ℕ
   pub nullable : Bool

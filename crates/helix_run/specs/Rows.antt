@@ -33,6 +33,7 @@ abbrev pub IsBelowAll : List Flag → List (List Flag) → Type 0
 IsBelowAll row [] = ⊤
 IsBelowAll row (other ∷ rows) = FlagRowLess row other × IsBelowAll row rows
 
+-- each row is below all that follow it
 abbrev pub AreAscendingFlags : List (List Flag) → Type 0
 AreAscendingFlags [] = ⊤
 AreAscendingFlags (row ∷ rows) = IsBelowAll row rows × AreAscendingFlags rows
