@@ -1,5 +1,5 @@
 -- What an expression matches: regular languages as textbooks define them, over words of code points.
-use Rattle.std.specs.Prelude.{◌≡◌, ℕ, zero, suc, ◌+◌, ◌<◌, ◌≤◌, length, take, drop, List, [], ◌∷◌, ◌++◌, ◌⊎◌, Bool, IsTrue, Option, MatchOption}
+use Rattle.std.specs.Prelude.{◌≡◌, ℕ, zero, suc, ◌≤◌, List, [], ◌∷◌, ◌++◌, ◌⊎◌, IsTrue, Option, MatchOption}
 use Rattle.helix_base.specs.Ranges.{in_ranges}
 use Rattle.helix_expr.specs.declared.expr.Expr.{Expr, Empty, Chars, Seq', Alt', Repeat', Row_of-Expr, end_of-Expr, more_of-Expr}
 use Rattle.helix_expr.specs.declared.regex.Regex.{Regex}

@@ -1,25 +1,18 @@
 -- What is built from the tokens of a whole pattern is what the pattern means.
-use Rattle.std.proofs.Common.{◌≡◌, ℕ, ◌+◌, ◌<◌, ◌≤◌, ◌&&◌, ◌||◌, not, min, Bool, true, false, nat_lt, Option, Some, None, List, [], ◌∷◌, ◌++◌, length, take, get_or, refl, sym, ◌∙◌, ap, subst, append_assoc}
-use Rattle.std.proofs.Math.Bool.{or-false, or_assoc}
-use Rattle.std.proofs.lemmas.List.{append-nil, take_more, take_all}
-use Rattle.std.specs.List.{list_any}
-use Rattle.helix_base.specs.Ranges.{in_ranges}
+use Rattle.std.proofs.Common.{◌≡◌, ℕ, ◌+◌, Bool, List, [], ◌∷◌, ◌++◌, length, refl, sym, ◌∙◌, ap, subst, append_assoc}
+use Rattle.std.proofs.lemmas.List.{append-nil}
 use Rattle.helix_expr.specs.declared.expr.Expr.{Expr, Chars}
-use Rattle.helix_expr.specs.declared.expr.Expr.TheViews.{Repeat}
 use Rattle.helix_expr.specs.declared.regex.Regex.{Regex}
 use Rattle.helix_regex.specs.declared.token.Token.{Token}
 use Rattle.helix_regex.specs.declared.token.Token.TheVariants as token
 use Rattle.helix_regex.specs.declared.builder.Level.{Level}
 use Rattle.helix_regex.specs.declared.builder.Builder.{Builder}
-use Rattle.helix_regex.specs.Characters.{is_character}
-use Rattle.helix_regex.specs.Pattern.{Item, single, range, set_item, dash, Single, literal, dot, escape, set, class, star, plus, question, exactly, at_least, between, Quant, once, times, Pattern, end, bar, caret, dollar, one, group, item_text, single_text, opening}
-use Rattle.helix_regex.specs.Meaning.{item_has, single_has, number_of, quantified, in_sequence, any_of, Parts, together, after_bar, with_piece, HasParts, has_caret, has_dollar, MeansRegex}
+use Rattle.helix_regex.specs.Pattern.{once, Pattern, end, bar, caret, dollar, one, group, single_text, opening}
+use Rattle.helix_regex.specs.Meaning.{quantified, in_sequence, any_of, Parts, together, after_bar, with_piece, HasParts, has_caret, has_dollar, MeansRegex}
 use Rattle.helix_regex.specs.Faults.{offset_if, piece_text, group_text, is_bad_count, bad_counts}
-use Rattle.helix_regex.specs.Inner.Tokens.{item_tokens, single_tokens, capped, quant_tokens, tokens}
-use Rattle.helix_regex.specs.Inner.Sets.{Gains}
-use Rattle.helix_regex.specs.Inner.Building.{choice, sequences, Same, Pushes, PushesSet, Gained, class_has, Ends, Opens, Closes, Repeats, Steps, Runs, IsBuilt}
-use Rattle.helix_regex.proofs.CountRule.{low}
-use Rattle.helix_regex.proofs.Counted.{third, good_first, none_of}
+use Rattle.helix_regex.specs.Inner.Tokens.{single_tokens, quant_tokens, tokens}
+use Rattle.helix_regex.specs.Inner.Building.{choice, sequences, Same, Pushes, Ends, Opens, Closes, Runs, IsBuilt}
+use Rattle.helix_regex.proofs.Counted.{good_first, none_of}
 use Rattle.helix_regex.proofs.Built.{single_run, quant_run}
 
 -- what a pattern adds

@@ -1,6 +1,6 @@
 -- The first and the least of places.
 use Rattle.std.proofs.Common.{◌≡◌, ℕ, min, Bool, true, false, ◌||◌, Option, Some, None, List, [], ◌∷◌, ◌++◌, refl, sym, ◌∙◌, ap, arith}
-use Rattle.std.proofs.Math.Bool.{or-false, or_assoc}
+use Rattle.std.proofs.Math.Bool.{or_assoc}
 use Rattle.std.specs.List.{list_any}
 use Rattle.helix_regex.specs.declared.token.Token.{Token}
 use Rattle.helix_regex.specs.Faults.{offset_if, first_of, lesser, least_of}

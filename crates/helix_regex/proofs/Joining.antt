@@ -1,5 +1,5 @@
 -- Ranges in ascending order that are joined where they touch are separate.
-use Rattle.std.proofs.Common.{◌≡◌, ℕ, ◌+◌, ◌-◌, ◌≤◌, ◌<◌, inl, inr, max, Bool, true, false, ◌||◌, ◌&&◌, nat_lt, None, List, [], ◌∷◌, refl, sym, ◌∙◌, ap, arith}
+use Rattle.std.proofs.Common.{◌≡◌, ℕ, ◌+◌, ◌-◌, ◌≤◌, ◌<◌, inl, inr, max, Bool, true, false, ◌||◌, nat_lt, None, List, [], ◌∷◌, refl, sym, ◌∙◌, ap, arith}
 use Rattle.std.proofs.Math.Bool.{or_assoc}
 use Rattle.std.proofs.lemmas.Bool.{leb-true, le-leb, ltb-true, lt-ltb, leb-false, ltb-false, cases_lt, and_from, cond_both, false_from_ne_true, or_cases}
 use Rattle.std.specs.List.Sorted.{IsPermutation}

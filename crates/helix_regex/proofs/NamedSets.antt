@@ -1,14 +1,12 @@
 -- The sets that letters name, as ranges.
-use Rattle.std.proofs.Common.{◌≡◌, ℕ, ◌+◌, ◌-◌, ◌≤◌, ◌<◌, ◌⊎◌, inl, inr, min, max, Bool, true, false, ◌||◌, ◌&&◌, not, ◌==◌, ◌≢◌, eq-eqb, nat_le, nat_lt, get_or, drop-cons, add-one, List, [], ◌∷◌, ◌++◌, length, drop, refl, sym, ◌∙◌, ap, subst, arith}
-use Rattle.std.proofs.Math.Bool.{or-false, or_assoc}
-use Rattle.std.proofs.lemmas.Bool.{leb-true, le-leb, ltb-true, lt-ltb, eqb-true, cases_lt, cond-false, and_from, and_parts, false_from_ne_true, ne_eqb, or_cases}
-use Rattle.std.proofs.lemmas.List.{drop_all}
+use Rattle.std.proofs.Common.{◌≡◌, ℕ, Bool, true, false, ◌||◌, ◌&&◌, not, ◌==◌, ◌≢◌, eq-eqb, [], ◌∷◌, refl, sym, ◌∙◌, ap, arith}
+use Rattle.std.proofs.Math.Bool.{or-false}
+use Rattle.std.proofs.lemmas.Bool.{eqb-true, cond-false, ne_eqb}
 use Rattle.helix_base.specs.Ranges.{in_ranges}
 use Rattle.helix_base.specs.Alphabet.{is_in_range}
 use Rattle.helix_regex.specs.Characters.{is_character, is_word, set_has}
-use Rattle.helix_regex.specs.Meaning.{are_separate}
 use Rattle.helix_regex.specs.Inner.Sets.{Gains, GainsAllBut}
-use Rattle.helix_regex.proofs.OneRegex.{ordered, gap, tail, within, is_within, above}
+use Rattle.helix_regex.proofs.OneRegex.{within, is_within}
 use Rattle.helix_regex.proofs.RangeSets.{Pairs, same_test, gains_both, gains_same}
 
 -- one code as a range

@@ -1,15 +1,14 @@
 -- The text of a pattern is read as that pattern.
-use Rattle.std.proofs.Common.{◌≡◌, ℕ, Bool, true, false, IsTrue, Some, List, [], ◌∷◌, ◌++◌, refl, sym, ◌∙◌, ap, append_assoc}
+use Rattle.std.proofs.Common.{◌≡◌, ℕ, true, false, IsTrue, Some, List, [], ◌∷◌, ◌++◌, refl, sym, ◌∙◌, ap, append_assoc}
 use Rattle.std.proofs.lemmas.List.{append-nil}
 use Rattle.std.proofs.lemmas.Bool.{cond-true}
 use Rattle.helix_regex.specs.declared.char_kind.CharKind.{CharKind}
 use Rattle.helix_regex.specs.declared.char_kind.CharKind.TheVariants as kind_is
 use Rattle.helix_regex.specs.declared.char_kind.CountKind.TheVariants as count_is
 use Rattle.helix_base.specs.Digits.{is_digit, AreDigits}
-use Rattle.helix_regex.specs.Pattern.{Single, literal, dot, escape, set, class, Count, star, plus, question, exactly, at_least, between, Quant, once, times, Pattern, end, bar, caret, dollar, one, group, single_text, count_text, quant_text, opening, pattern_text, IsNumeral, FitsSingle, FitsCount, FitsQuant, Fits, Writes}
+use Rattle.helix_regex.specs.Pattern.{Single, literal, dot, escape, set, class, Count, star, plus, question, exactly, at_least, between, Quant, once, times, Pattern, single_text, count_text, quant_text, IsNumeral, FitsSingle, FitsCount, FitsQuant}
 use Rattle.helix_regex.specs.Inner.Scan.{char_kind, count_kind}
-use Rattle.helix_regex.proofs.Machine.{append, Atom, alone, grouped, piece, Last, nothing, opened, atom, repeated, settled, Frame, count_opened, count_least, count_comma, count_most, State, outside, marked, escaping, counting, in_class, start, settled_step, outside_step, escape_step, count_step, class_opened, step, on_some, run}
-use Rattle.helix_regex.proofs.Texts.{append-assoc, append-end}
+use Rattle.helix_regex.proofs.Machine.{append, Atom, alone, piece, Last, nothing, opened, atom, repeated, settled, Frame, count_opened, count_least, count_comma, count_most, State, outside, escaping, counting, in_class, settled_step, outside_step, escape_step, count_step, class_opened, step, on_some, run}
 use Rattle.helix_regex.proofs.ClassReads.{class_read, itself_kind, set_kind}
 
 pub run_step : (s next : State) (c : ℕ) (cs : List ℕ) → step s c ≡ Some next → run s (c ∷ cs) ≡ run next cs

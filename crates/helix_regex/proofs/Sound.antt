@@ -1,17 +1,12 @@
 -- What is read is the text of what is put together.
-use Rattle.std.proofs.Common.{◌≡◌, ◌≢◌, ℕ, Bool, true, false, IsTrue, Option, Some, None, List, [], ◌∷◌, ◌++◌, refl, sym, ◌∙◌, ap, append_assoc, codes}
+use Rattle.std.proofs.Common.{◌≡◌, ◌≢◌, ℕ, Bool, true, false, IsTrue, Option, Some, None, List, [], ◌∷◌, ◌++◌, refl, sym, ◌∙◌, ap, append_assoc}
 use Rattle.std.proofs.lemmas.List.{append-nil}
 use Rattle.helix_regex.specs.declared.char_kind.CharKind.{CharKind}
 use Rattle.helix_regex.specs.declared.char_kind.CharKind.TheVariants as kind_is
-use Rattle.helix_regex.specs.declared.char_kind.EscapeKind.{EscapeKind}
-use Rattle.helix_regex.specs.declared.char_kind.EscapeKind.TheVariants as escape_is
-use Rattle.helix_regex.specs.declared.char_kind.CountKind.{CountKind}
-use Rattle.helix_regex.specs.declared.char_kind.CountKind.TheVariants as count_is
-use Rattle.helix_base.specs.Digits.{is_digit, AreDigits}
-use Rattle.helix_regex.specs.Pattern.{literal, dot, escape, set, Count, star, plus, question, exactly, at_least, between, once, times, Pattern, end, bar, caret, dollar, count_text, quant_text, opening, pattern_text, IsNumeral, FitsCount, Fits, BeginsWithCaret, parts_ampersands}
-use Rattle.helix_regex.proofs.Machine.{append, Atom, alone, grouped, Last, nothing, opened, atom, repeated, settled, Frame, Counting, count_opened, count_least, count_comma, count_most, InClass, class_opened, class_first, class_items, class_one, class_dash, class_last, class_escape, class_far, State, outside, marked, escaping, counting, in_class, close, settled_step, outside_step, marked_step, escape_step, count_step}
+use Rattle.helix_regex.specs.Pattern.{literal, dot, Count, once, times, Pattern, end, bar, caret, dollar, count_text, opening, pattern_text, IsNumeral, FitsCount, Fits, BeginsWithCaret, parts_ampersands}
+use Rattle.helix_regex.proofs.Machine.{append, Atom, alone, grouped, Last, nothing, opened, atom, repeated, settled, Frame, Counting, count_opened, count_least, count_comma, count_most, InClass, class_opened, class_first, class_items, class_one, class_dash, class_last, class_escape, class_far, State, outside, marked, escaping, counting, in_class, close, settled_step}
 use Rattle.helix_regex.proofs.Texts.{pattern_text-append, fits-append, atom_text, FitsAtom, pushed-text, fits-pushed}
-use Rattle.helix_regex.proofs.CharKinds.{KindMeans, EscapeMeans, CountMeans}
+use Rattle.helix_regex.proofs.CharKinds.{KindMeans}
 use Rattle.helix_regex.proofs.ClassSound.{ClassFine, class_so_far}
 
 abbrev pub frames_text : List Frame → List ℕ

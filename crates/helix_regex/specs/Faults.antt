@@ -1,5 +1,5 @@
 -- The rules of a pattern in the order in which they are tested, and the offset of the first that is broken.
-use Rattle.std.specs.Prelude.{◌≡◌, ℕ, ◌+◌, ◌*◌, ◌<◌, ◌≤◌, ◌||◌, nat_lt, min, max, if◌then◌else◌, Bool, true, false, IsTrue, Option, Some, None, List, [], ◌∷◌, ◌++◌, length, take, slice_index}
+use Rattle.std.specs.Prelude.{◌≡◌, ℕ, ◌+◌, ◌*◌, ◌<◌, ◌||◌, nat_lt, min, max, if◌then◌else◌, Bool, true, false, IsTrue, Option, Some, None, List, [], ◌∷◌, ◌++◌, length, take, slice_index}
 use Rattle.helix_regex.specs.declared.fault.RegexFault.{RegexFault}
 use Rattle.helix_regex.specs.declared.fault.RegexRule.{RegexRule}
 use Rattle.helix_regex.specs.declared.fault.RegexRule.TheVariants as rule
