@@ -41,3 +41,5 @@ pub mod Nesting
 pub mod Offsets
 pub mod Verdicts
 pub mod Found
+pub mod Shallow
+pub mod Distinct

@@ -1,7 +1,9 @@
 -- What holds of a value that a text may spell and that is read: for the crates that take such values.
-use Rattle.std.specs.Prelude.{◌≡◌, ◌⊎◌, ℕ, ◌+◌, max, List}
+use Rattle.std.specs.Prelude.{◌≡◌, ◌≢◌, ◌⊎◌, ℕ, ◌+◌, max, List, [], ◌∷◌}
+use Rattle.std.specs.List.{AllByRecursion}
 use Rattle.helix_json.specs.declared.value.Json.{Json, Row_of-Json, Row_of-Member}
 use Rattle.helix_json.specs.declared.value.Json as json
+use Rattle.helix_json.specs.declared.value.Member.{Member}
 use Rattle.helix_json.specs.Numbers.{IsNumber}
 
 abbrev mutual
@@ -63,3 +65,9 @@ abbrev mutual
   pub members_nesting : {n : _} → Row_of-Member n → ℕ
   members_nesting json.end_of-Member = 0
   members_nesting (json.more_of-Member key value members) = max (nesting value) (members_nesting members)
+
+-- no two of the members have the same key
+abbrev pub HaveDifferentKeys : List Member → Type 0
+HaveDifferentKeys [] = Unit {0}
+HaveDifferentKeys (member ∷ members) =
+    AllByRecursion (λ other. member.key ≢ other.key) members × HaveDifferentKeys members

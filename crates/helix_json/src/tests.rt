@@ -4,7 +4,9 @@ mod scan;
 mod scanned;
 mod shown;
 
-use crate::{is_number, number_units, numbers_of_a_value, one_value, rules_of_a_value};
+use crate::{
+    is_number, number_units, numbers_of_a_value, one_value, parts_of_a_value, rules_of_a_value,
+};
 use helix_base::Text;
 use std::test::Fail;
 
@@ -62,6 +64,7 @@ fn numbers_are_told_from_other_texts(rt: HostRuntime) -> Result<(), Fail> {
     one_value();
     numbers_of_a_value();
     rules_of_a_value();
+    parts_of_a_value();
     let cases = [
         ("0", true),
         ("-0.0e+0", true),

@@ -85,7 +85,8 @@ sign_found : (text unsigned : List ℕ) (negative is_minus : Bool) (whole tail :
 sign_found text unsigned negative is_minus [] tail h is takes = absurd h
 sign_found text unsigned true true (c ∷ whole) tail h is takes = (refl, (let e : text ≡ 45 ∷ unsigned = takes in cc))
 sign_found text unsigned true false (c ∷ whole) tail h is takes =
-    let e : text ≡ 45 ∷ unsigned = takes in let f : c ≡ 45 = cc in absurd (let k : (48 ≤ c) × (c ≤ 57) = digit_bounds c h.0 in omega arith)
+    let e : text ≡ 45 ∷ unsigned = takes in let f : c ≡ 45 = cc in
+    absurd (let k : (48 ≤ c) × (c ≤ 57) = digit_bounds c h.0 in omega arith)
 sign_found text unsigned false true (c ∷ whole) tail h is takes = absurd (takes.1 (c ∷ whole ++ tail) is)
 sign_found text unsigned false false (c ∷ whole) tail h is takes = (refl, sym takes.0 ∙ is)
 
