@@ -1,8 +1,11 @@
 pub mod LeastValues
+pub mod NextMultiple
 pub mod OnAndOff
 pub mod Windows
+pub mod NextInWindow
 pub mod Ascending
 pub mod Sieves
 pub mod Kept
 pub mod Narrowing
 pub mod Meeting
+pub mod AllTests

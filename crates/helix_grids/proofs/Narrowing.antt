@@ -1,11 +1,12 @@
--- The candidates that pass one more test.
+-- The members that pass one more test.
 use Rattle.std.proofs.Common.{◌↔◌, ℕ, ℤ, List, [], ◌++◌, arith, append-nil, ⊎_elim}
 use Rattle.std.specs.List.{Contains}
 use Rattle.std.proofs.lemmas.List.Elements.{Contains-append_left, Contains-append_right, Contains-append_cases}
+use Rattle.helix_ladders.specs.Scale.{Ladder}
 use Rattle.helix_grids.specs.declared.window.Window.{Window}
-use Rattle.helix_grids.specs.Window.{IsInWindow}
-use Rattle.helix_grids.specs.Sieve.{IsSifted}
-use Rattle.helix_grids.specs.Keep.{AreKept}
+use Rattle.helix_grids.specs.Inner.Window.{IsInWindow}
+use Rattle.helix_grids.specs.Inner.Sieve.{IsSifted}
+use Rattle.helix_grids.specs.Inner.Kept.{AreKept}
 
 pub none_listed : (v : ℤ) → ¬ Contains [] v
 none_listed v (k, within, is) = absurd (omega arith)
@@ -15,10 +16,10 @@ pub sorted_alone : (numbers sorted : List ℤ) → ((v : ℤ) → Contains sorte
     Contains sorted v ↔ Contains numbers v
 sorted_alone numbers sorted exact v = rw append-nil at (exact v)
 
-module _ (IsOn : ℕ → ℤ → Type 0) (window : Window) where
+module _ (ladder : Ladder) (window : Window) where
   -- the members that lie in a narrower window
-  pub members_within : (members kept : List ℤ) → AreKept (IsSifted IsOn window []) members kept → (v : ℤ) →
-      Contains kept v ↔ (Contains members v × IsInWindow IsOn window v)
+  pub members_within : (members kept : List ℤ) → AreKept (IsSifted ladder window []) members kept → (v : ℤ) →
+      Contains kept v ↔ (Contains members v × IsInWindow ladder window v)
   members_within members kept are_kept v = (
     (λ has. let was = (are_kept.exact v).0 has in (was.0, was.1.0)),
     (λ has. (are_kept.exact v).1 (has.0, (has.1, none_listed v))),
@@ -26,9 +27,9 @@ module _ (IsOn : ℕ → ℤ → Type 0) (window : Window) where
 
   -- what a sieve with a narrower window leaves, whose excluded values are those that lie there
   pub sifted_within : (wide : Window) (excluded kept : List ℤ) →
-      ((v : ℤ) → IsInWindow IsOn window v → IsInWindow IsOn wide v) →
-      AreKept (IsSifted IsOn window []) excluded kept → (v : ℤ) →
-      IsSifted IsOn window kept v ↔ (IsSifted IsOn wide excluded v × IsInWindow IsOn window v)
+      ((v : ℤ) → IsInWindow ladder window v → IsInWindow ladder wide v) →
+      AreKept (IsSifted ladder window []) excluded kept → (v : ℤ) →
+      IsSifted ladder window kept v ↔ (IsSifted ladder wide excluded v × IsInWindow ladder window v)
   sifted_within wide excluded kept narrower are_kept v = (
     (λ has. ((narrower v has.0, λ out. has.1 ((are_kept.exact v).1 (out, (has.0, none_listed v)))), has.0)),
     (λ has. (has.1, λ out. has.0.1 ((are_kept.exact v).0 out).0)),
@@ -36,8 +37,8 @@ module _ (IsOn : ℕ → ℤ → Type 0) (window : Window) where
 
   -- the members that aren't among the numbers
   pub members_apart : (members numbers sorted kept : List ℤ) →
-      ((v : ℤ) → Contains members v → IsInWindow IsOn window v) → ((v : ℤ) → Contains sorted v ↔ Contains numbers v) →
-      AreKept (IsSifted IsOn window sorted) members kept → (v : ℤ) →
+      ((v : ℤ) → Contains members v → IsInWindow ladder window v) → ((v : ℤ) → Contains sorted v ↔ Contains numbers v) →
+      AreKept (IsSifted ladder window sorted) members kept → (v : ℤ) →
       Contains kept v ↔ (Contains members v × (¬ Contains numbers v))
   members_apart members numbers sorted kept within same are_kept v = (
     (λ has. let was = (are_kept.exact v).0 has in (was.0, λ out. was.1.1 ((same v).1 out))),
@@ -46,8 +47,8 @@ module _ (IsOn : ℕ → ℤ → Type 0) (window : Window) where
 
   -- the numbers that a sieve leaves
   pub sifted_among : (excluded numbers sorted kept : List ℤ) → ((v : ℤ) → Contains sorted v ↔ Contains numbers v) →
-      AreKept (IsSifted IsOn window excluded) sorted kept → (v : ℤ) →
-      Contains kept v ↔ (IsSifted IsOn window excluded v × Contains numbers v)
+      AreKept (IsSifted ladder window excluded) sorted kept → (v : ℤ) →
+      Contains kept v ↔ (IsSifted ladder window excluded v × Contains numbers v)
   sifted_among excluded numbers sorted kept same are_kept v = (
     (λ has. let was = (are_kept.exact v).0 has in (was.1, (same v).0 was.0)),
     (λ has. (are_kept.exact v).1 ((same v).1 has.1, has.0)),
@@ -55,9 +56,9 @@ module _ (IsOn : ℕ → ℤ → Type 0) (window : Window) where
 
   -- what a sieve leaves that also excludes the numbers among what it left
   pub sifted_apart : (excluded numbers others both : List ℤ) →
-      AreKept (IsSifted IsOn window excluded) numbers others →
+      AreKept (IsSifted ladder window excluded) numbers others →
       ((v : ℤ) → Contains both v ↔ Contains (excluded ++ others) v) → (v : ℤ) →
-      IsSifted IsOn window both v ↔ (IsSifted IsOn window excluded v × (¬ Contains numbers v))
+      IsSifted ladder window both v ↔ (IsSifted ladder window excluded v × (¬ Contains numbers v))
   sifted_apart excluded numbers others both are_kept joined v = (
     (λ has.
         let stays : ¬ Contains excluded v = λ out. has.1 ((joined v).1 (Contains-append_left excluded others v out)) in

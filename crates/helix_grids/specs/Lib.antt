@@ -1,5 +1,4 @@
+-- what public clauses rest on
 pub mod Tests
-pub mod Window
-pub mod Sieve
-pub mod Candidates
-pub mod Keep
+-- the crate's inner words
+pub mod Inner

@@ -1,12 +1,14 @@
 //! The values of a level that pass a list of tests.
 
-ghost use Rattle.std.specs.Prelude.{ℤ, ◌≡◌, ◌<◌, ◌≤ℤ◌, [], ◌∷◌, ◌++◌, IfOk, OnOk, OnErr};
-ghost use Rattle.helix_grids.specs.Tests.{IsCandidate, IsLeastOf, NamesLevelBelow};
+ghost use Rattle.std.specs.Prelude.{◌≡◌, ◌<◌, ◌≤ℤ◌, ◌<ℤ◌, [], ◌∷◌, ◌++◌, IfOk, OnOk, OnErr};
+ghost use Rattle.std.specs.List.{All};
+ghost use Rattle.helix_grids.specs.Tests.{IsMember, IsLeastOf, NamesLevelBelow};
 
-use crate::candidates::{Candidates, Sieve, first_candidate};
+use crate::members::{Members, Sieve, first_member, next_member};
 use crate::narrow::narrowed;
-use crate::test::GridTest;
-use crate::window::Window;
+use crate::test::{GridTest, copy_tests};
+use crate::whole::members_of;
+use crate::window::whole_level;
 use helix_base::Memory;
 use helix_ladders::Scale;
 use std::alloc::Global;
@@ -19,7 +21,7 @@ pub struct Grid<S: Scale> {
     scale: S,
     level: u32,
     tests: Vec<GridTest>,
-    candidates: Candidates,
+    members: Members,
 }
 
 impl<S: Scale> Model for Grid<S> {
@@ -27,30 +29,25 @@ impl<S: Scale> Model for Grid<S> {
 
     ghost Value = { Tested S };
 
-    ghost use Rattle.helix_grids.specs.Candidates.{AreCandidatesOf};
+    ghost use Rattle.helix_grids.specs.Inner.Members.{AreMembersOf};
 
     ghost view = { λ grid. record { scale = grid.scale; level = grid.level; tests = grid.tests.items } };
 
-    ghost invariant = { λ grid. AreCandidatesOf (S.low grid.scale) (S.high grid.scale) (S.levels grid.scale) (S.IsOn grid.scale) grid.level grid.tests.items grid.candidates };
+    ghost invariant = { λ grid. AreMembersOf (S.ladder grid.scale) grid.level grid.tests.items grid.members };
 }
 
 impl<S: Scale> Grid<S> {
     /// All values of a level.
     pub fn open(alloc: Global, scale: S, level: u32) -> Result<Grid<S>, Memory>
-        requires { level < S.levels scale }
+        requires { level < (S.ladder scale).levels }
         ensures { IfOk result (λ grid. grid ≡ record { scale = scale; level = level; tests = [] }) }
     {
-        let window = Window {
-            least: scale.low(),
-            most: scale.high(),
-            on: level,
-            off: None,
-        };
+        let window = whole_level(&scale, level);
         Ok(Grid {
             scale,
             level,
             tests: Vec::new(alloc),
-            candidates: Candidates::Sifted(Sieve {
+            members: Members::Sifted(Sieve {
                 window,
                 excluded: Vec::new(alloc),
                 next: Vec::new(alloc),
@@ -58,24 +55,52 @@ impl<S: Scale> Grid<S> {
         })
     }
 
+    /// The values of a level that pass all these tests. Its cost is that of sorting all numbers of the
+    /// tests, where meeting them one by one sorts those of the earlier ones again.
+    pub fn of(alloc: Global, scale: S, level: u32, tests: &[GridTest]) -> Result<Grid<S>, Memory>
+    where
+        S: Drop,
+        requires level { level < (S.ladder scale).levels }
+        requires tests { All (NamesLevelBelow (S.ladder scale).levels) tests.now }
+        ensures { IfOk result (λ grid. grid ≡ record { scale = scale; level = level; tests = tests.now }) }
+    {
+        let members = members_of(alloc, &scale, level, tests)?;
+        let tests = copy_tests(alloc, tests)?;
+        Ok(Grid {
+            scale,
+            level,
+            tests,
+            members,
+        })
+    }
+
     /// Leaves the values that pass one more test. On `Err` the grid is as it was.
     pub fn meet(&mut self, test: &GridTest) -> Result<(), Memory>
-        requires { NamesLevelBelow (S.levels self.old.scale) test.now }
+        requires { NamesLevelBelow (S.ladder self.old.scale).levels test.now }
         ensures ok { OnOk result (self.new ≡ record self.old { tests = self.old.tests ++ test.now ∷ [] }) }
         ensures err { OnErr result (self.new ≡ self.old) }
     {
         let alloc = *self.tests.allocator();
-        let candidates = narrowed(alloc, &self.scale, &self.candidates, test)?;
+        let members = narrowed(alloc, &self.scale, &self.members, test)?;
         let met = test.copy(alloc)?;
         self.tests.push(met)?;
-        self.candidates = candidates;
+        self.members = members;
         Ok(())
     }
 
     /// The least of the values that isn't below a bound, or `None` where there is none. It takes no memory.
     pub fn at_or_after(&self, bound: i128) -> Option<i128>
-        ensures { IsLeastOf (λ v. IsCandidate (S.low self.now.scale) (S.high self.now.scale) (S.IsOn self.now.scale) self.now.level self.now.tests v × (bound ≤ℤ v)) result }
+        ensures { IsLeastOf (λ v. IsMember (S.ladder self.now.scale) self.now.level self.now.tests v × (bound ≤ℤ v)) result }
     {
-        first_candidate(&self.scale, &self.candidates, bound)
+        first_member(&self.scale, &self.members, bound)
+    }
+
+    /// The least of the values above one of them, or `None` where there is none. It costs less than
+    /// [`at_or_after`](Grid::at_or_after), and takes no memory.
+    pub fn after(&self, member: i128) -> Option<i128>
+        requires { IsMember (S.ladder self.now.scale) self.now.level self.now.tests member }
+        ensures { IsLeastOf (λ v. IsMember (S.ladder self.now.scale) self.now.level self.now.tests v × (member <ℤ v)) result }
+    {
+        next_member(&self.scale, &self.members, member)
     }
 }

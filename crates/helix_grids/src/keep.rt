@@ -2,9 +2,9 @@
 
 ghost use Rattle.std.specs.Prelude.{ℤ, ◌≡◌, ◌↔◌, ◌++◌, IfOk};
 ghost use Rattle.std.specs.List.{Contains};
-ghost use Rattle.helix_grids.specs.Keep.{AreKept};
-ghost use Rattle.helix_grids.specs.Sieve.{IsAscending, IsSifted};
-ghost use Rattle.helix_grids.specs.Window.{IsWindowOf};
+ghost use Rattle.helix_grids.specs.Inner.Kept.{AreKept};
+ghost use Rattle.helix_grids.specs.Inner.Sieve.{AreAscending, IsSifted};
+ghost use Rattle.helix_grids.specs.Inner.Window.{IsWindowOf};
 
 use crate::search::is_listed;
 use crate::sieve::is_sifted;
@@ -21,9 +21,9 @@ pub fn sifted<S: Scale>(
     excluded: &[i128],
     values: &[i128],
 ) -> Result<Vec<i128>, Memory>
-    requires window { IsWindowOf (S.low scale.now) (S.high scale.now) (S.levels scale.now) window }
-    requires ascending { IsAscending excluded.now }
-    ensures { IfOk result (λ kept. AreKept (IsSifted (S.IsOn scale.now) window excluded.now) values.now kept.items) }
+    requires window { IsWindowOf (S.ladder scale.now) window }
+    requires ascending { AreAscending excluded.now }
+    ensures { IfOk result (λ kept. AreKept (IsSifted (S.ladder scale.now) window excluded.now) values.now kept.items) }
 {
     let mut kept = Vec::new(alloc);
     for value in values {
@@ -36,7 +36,7 @@ pub fn sifted<S: Scale>(
 
 /// The values of a list that an ascending list has too.
 pub fn common(alloc: Global, members: &[i128], values: &[i128]) -> Result<Vec<i128>, Memory>
-    requires { IsAscending members.now }
+    requires { AreAscending members.now }
     ensures { IfOk result (λ kept. AreKept (Contains members.now) values.now kept.items) }
 {
     let mut kept = Vec::new(alloc);
@@ -50,7 +50,7 @@ pub fn common(alloc: Global, members: &[i128], values: &[i128]) -> Result<Vec<i1
 
 /// The values of two lists in ascending order.
 pub fn sorted(alloc: Global, values: &[i128], others: &[i128]) -> Result<Vec<i128>, Memory>
-    ensures ascending { IfOk result (λ all. IsAscending all.items) }
+    ensures ascending { IfOk result (λ all. AreAscending all.items) }
     ensures exact { IfOk result (λ all. (v : ℤ) → Contains all.items v ↔ Contains (values.now ++ others.now) v) }
 {
     let mut all = Vec::from_slice(alloc, values)?;

@@ -1,13 +1,13 @@
-//! The candidates that pass one more test.
+//! The members that pass one more test.
 
 ghost use Rattle.std.specs.Prelude.{ℤ, ◌≡◌, ◌↔◌, IfOk};
 ghost use Rattle.std.specs.List.{Contains};
-ghost use Rattle.helix_grids.specs.Candidates.{AreInForm, Holds, window_of};
+ghost use Rattle.helix_grids.specs.Inner.Members.{AreInForm, HasMember, window_of};
 ghost use Rattle.helix_grids.specs.Tests.{Passes, NamesLevelBelow};
-ghost use Rattle.helix_grids.specs.Window.{IsInWindow, IsWindowOf};
+ghost use Rattle.helix_grids.specs.Inner.Window.{IsInWindow, IsWindowOf};
 
-use crate::candidates::{Candidates, Shortlist, Sieve, window};
 use crate::keep::{common, sifted, sorted};
+use crate::members::{Members, Shortlist, Sieve, window};
 use crate::sieve::next_of;
 use crate::test::GridTest;
 use crate::window::{Window, with_least, with_most, with_off, with_on};
@@ -15,17 +15,17 @@ use helix_base::Memory;
 use helix_ladders::Scale;
 use std::alloc::Global;
 
-/// The candidates that pass a test.
+/// The members that pass a test.
 pub fn narrowed<S: Scale>(
     alloc: Global,
     scale: &S,
-    all: &Candidates,
+    all: &Members,
     test: &GridTest,
-) -> Result<Candidates, Memory>
-    requires form { AreInForm (S.low scale.now) (S.high scale.now) (S.levels scale.now) (S.IsOn scale.now) all.now }
-    requires level { NamesLevelBelow (S.levels scale.now) test.now }
-    ensures form { IfOk result (AreInForm (S.low scale.now) (S.high scale.now) (S.levels scale.now) (S.IsOn scale.now)) }
-    ensures exact { IfOk result (λ new. (v : ℤ) → Holds (S.IsOn scale.now) new v ↔ (Holds (S.IsOn scale.now) all.now v × Passes (S.IsOn scale.now) test.now v)) }
+) -> Result<Members, Memory>
+    requires form { AreInForm (S.ladder scale.now) all.now }
+    requires level { NamesLevelBelow (S.ladder scale.now).levels test.now }
+    ensures form { IfOk result (AreInForm (S.ladder scale.now)) }
+    ensures exact { IfOk result (λ new. (v : ℤ) → HasMember (S.ladder scale.now) new v ↔ (HasMember (S.ladder scale.now) all.now v × Passes (S.ladder scale.now) test.now v)) }
 {
     let window = window(all);
     match test {
@@ -38,28 +38,28 @@ pub fn narrowed<S: Scale>(
     }
 }
 
-/// The candidates that lie in a narrower window.
+/// The members that lie in a narrower window.
 fn within<S: Scale>(
     alloc: Global,
     scale: &S,
-    all: &Candidates,
+    all: &Members,
     window: Window,
-) -> Result<Candidates, Memory>
-    requires form { AreInForm (S.low scale.now) (S.high scale.now) (S.levels scale.now) (S.IsOn scale.now) all.now }
-    requires window { IsWindowOf (S.low scale.now) (S.high scale.now) (S.levels scale.now) window }
-    requires narrower { (v : ℤ) → IsInWindow (S.IsOn scale.now) window v → IsInWindow (S.IsOn scale.now) (window_of all.now) v }
-    ensures form { IfOk result (AreInForm (S.low scale.now) (S.high scale.now) (S.levels scale.now) (S.IsOn scale.now)) }
-    ensures exact { IfOk result (λ new. (v : ℤ) → Holds (S.IsOn scale.now) new v ↔ (Holds (S.IsOn scale.now) all.now v × IsInWindow (S.IsOn scale.now) window v)) }
+) -> Result<Members, Memory>
+    requires form { AreInForm (S.ladder scale.now) all.now }
+    requires window { IsWindowOf (S.ladder scale.now) window }
+    requires narrower { (v : ℤ) → IsInWindow (S.ladder scale.now) window v → IsInWindow (S.ladder scale.now) (window_of all.now) v }
+    ensures form { IfOk result (AreInForm (S.ladder scale.now)) }
+    ensures exact { IfOk result (λ new. (v : ℤ) → HasMember (S.ladder scale.now) new v ↔ (HasMember (S.ladder scale.now) all.now v × IsInWindow (S.ladder scale.now) window v)) }
 {
     match all {
-        Candidates::Listed(list) => {
+        Members::Listed(list) => {
             let members = sifted(alloc, scale, window, &[], list.members.as_slice())?;
-            Ok(Candidates::Listed(Shortlist { window, members }))
+            Ok(Members::Listed(Shortlist { window, members }))
         }
-        Candidates::Sifted(sieve) => {
+        Members::Sifted(sieve) => {
             let excluded = sifted(alloc, scale, window, &[], sieve.excluded.as_slice())?;
             let next = next_of(alloc, scale, window, excluded.as_slice())?;
-            Ok(Candidates::Sifted(Sieve {
+            Ok(Members::Sifted(Sieve {
                 window,
                 excluded,
                 next,
@@ -68,27 +68,27 @@ fn within<S: Scale>(
     }
 }
 
-/// The candidates that are among the numbers.
-fn among<S: Scale>(
+/// The members that are among the numbers.
+pub fn among<S: Scale>(
     alloc: Global,
     scale: &S,
-    all: &Candidates,
+    all: &Members,
     numbers: &[i128],
-) -> Result<Candidates, Memory>
-    requires { AreInForm (S.low scale.now) (S.high scale.now) (S.levels scale.now) (S.IsOn scale.now) all.now }
-    ensures form { IfOk result (AreInForm (S.low scale.now) (S.high scale.now) (S.levels scale.now) (S.IsOn scale.now)) }
-    ensures exact { IfOk result (λ new. (v : ℤ) → Holds (S.IsOn scale.now) new v ↔ (Holds (S.IsOn scale.now) all.now v × Contains numbers.now v)) }
+) -> Result<Members, Memory>
+    requires { AreInForm (S.ladder scale.now) all.now }
+    ensures form { IfOk result (AreInForm (S.ladder scale.now)) }
+    ensures exact { IfOk result (λ new. (v : ℤ) → HasMember (S.ladder scale.now) new v ↔ (HasMember (S.ladder scale.now) all.now v × Contains numbers.now v)) }
 {
     let numbers = sorted(alloc, numbers, &[])?;
     match all {
-        Candidates::Listed(list) => {
+        Members::Listed(list) => {
             let members = common(alloc, list.members.as_slice(), numbers.as_slice())?;
-            Ok(Candidates::Listed(Shortlist {
+            Ok(Members::Listed(Shortlist {
                 window: list.window,
                 members,
             }))
         }
-        Candidates::Sifted(sieve) => {
+        Members::Sifted(sieve) => {
             let window = sieve.window;
             let members = sifted(
                 alloc,
@@ -97,24 +97,24 @@ fn among<S: Scale>(
                 sieve.excluded.as_slice(),
                 numbers.as_slice(),
             )?;
-            Ok(Candidates::Listed(Shortlist { window, members }))
+            Ok(Members::Listed(Shortlist { window, members }))
         }
     }
 }
 
-/// The candidates that are none of the numbers.
+/// The members that are none of the numbers.
 fn apart<S: Scale>(
     alloc: Global,
     scale: &S,
-    all: &Candidates,
+    all: &Members,
     numbers: &[i128],
-) -> Result<Candidates, Memory>
-    requires { AreInForm (S.low scale.now) (S.high scale.now) (S.levels scale.now) (S.IsOn scale.now) all.now }
-    ensures form { IfOk result (AreInForm (S.low scale.now) (S.high scale.now) (S.levels scale.now) (S.IsOn scale.now)) }
-    ensures exact { IfOk result (λ new. (v : ℤ) → Holds (S.IsOn scale.now) new v ↔ (Holds (S.IsOn scale.now) all.now v × (¬ Contains numbers.now v))) }
+) -> Result<Members, Memory>
+    requires { AreInForm (S.ladder scale.now) all.now }
+    ensures form { IfOk result (AreInForm (S.ladder scale.now)) }
+    ensures exact { IfOk result (λ new. (v : ℤ) → HasMember (S.ladder scale.now) new v ↔ (HasMember (S.ladder scale.now) all.now v × (¬ Contains numbers.now v))) }
 {
     match all {
-        Candidates::Listed(list) => {
+        Members::Listed(list) => {
             let window = list.window;
             let numbers = sorted(alloc, numbers, &[])?;
             let members = sifted(
@@ -124,14 +124,14 @@ fn apart<S: Scale>(
                 numbers.as_slice(),
                 list.members.as_slice(),
             )?;
-            Ok(Candidates::Listed(Shortlist { window, members }))
+            Ok(Members::Listed(Shortlist { window, members }))
         }
-        Candidates::Sifted(sieve) => {
+        Members::Sifted(sieve) => {
             let window = sieve.window;
             let others = sifted(alloc, scale, window, sieve.excluded.as_slice(), numbers)?;
             let excluded = sorted(alloc, sieve.excluded.as_slice(), others.as_slice())?;
             let next = next_of(alloc, scale, window, excluded.as_slice())?;
-            Ok(Candidates::Sifted(Sieve {
+            Ok(Members::Sifted(Sieve {
                 window,
                 excluded,
                 next,

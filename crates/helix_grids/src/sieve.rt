@@ -2,20 +2,21 @@
 
 ghost use Rattle.std.specs.Prelude.{ℤ, ◌≡◌, ◌↔◌, ◌<◌, ◌≤◌, ◌≤ℤ◌, ◌<ℤ◌, length, pos, ◌+ℤ◌, IsTrue, IfOk};
 ghost use Rattle.helix_grids.specs.Tests.{IsLeastOf};
-ghost use Rattle.helix_grids.specs.Window.{IsWindowOf};
-ghost use Rattle.helix_grids.specs.Sieve.{IsAscending, IsSifted, AreNext};
+ghost use Rattle.helix_grids.specs.Inner.Window.{IsInWindow, IsWindowOf};
+ghost use Rattle.helix_grids.specs.Inner.Sieve.{AreAscending, IsSifted, AreNext, IsItOrNext};
 
-use crate::search::{is_listed, place_of};
-use crate::window::{Window, first_in, is_in_window};
+use crate::first::{first_in, next_in};
+use crate::search::{index_of, is_listed};
+use crate::window::{Window, is_in_window};
 use helix_base::Memory;
 use helix_ladders::Scale;
 use std::alloc::Global;
 
 /// Whether a value lies in a window and isn't excluded.
 pub fn is_sifted<S: Scale>(scale: &S, window: Window, excluded: &[i128], value: i128) -> bool
-    requires window { IsWindowOf (S.low scale.now) (S.high scale.now) (S.levels scale.now) window }
-    requires ascending { IsAscending excluded.now }
-    ensures { IsTrue result ↔ IsSifted (S.IsOn scale.now) window excluded.now value }
+    requires window { IsWindowOf (S.ladder scale.now) window }
+    requires ascending { AreAscending excluded.now }
+    ensures { IsTrue result ↔ IsSifted (S.ladder scale.now) window excluded.now value }
 {
     if is_listed(excluded, value) {
         return false;
@@ -24,7 +25,8 @@ pub fn is_sifted<S: Scale>(scale: &S, window: Window, excluded: &[i128], value: 
 }
 
 /// The least value of a window from a bound on that isn't excluded. A run of excluded neighbours costs
-/// one look at what is next to the first of them.
+/// one lookup of what is next to the first of them.
+#[inline(always)]
 pub fn first_sifted<S: Scale>(
     scale: &S,
     window: Window,
@@ -32,18 +34,50 @@ pub fn first_sifted<S: Scale>(
     next: &[Option<i128>],
     bound: i128,
 ) -> Option<i128>
-    requires window { IsWindowOf (S.low scale.now) (S.high scale.now) (S.levels scale.now) window }
-    requires ascending { IsAscending excluded.now }
+    requires window { IsWindowOf (S.ladder scale.now) window }
+    requires ascending { AreAscending excluded.now }
     requires len { length next.now ≡ length excluded.now }
-    requires next { AreNext (S.IsOn scale.now) window excluded.now next.now bound }
-    ensures { IsLeastOf (λ v. IsSifted (S.IsOn scale.now) window excluded.now v × (bound ≤ℤ v)) result }
+    requires next { AreNext (S.ladder scale.now) window excluded.now next.now bound }
+    ensures { IsLeastOf (λ v. IsSifted (S.ladder scale.now) window excluded.now v × (bound ≤ℤ v)) result }
 {
     let Some(first) = first_in(scale, window, bound) else {
         return None;
     };
-    match place_of(excluded, first) {
-        Some(place) => next[place],
-        None => Some(first),
+    or_next(excluded, next, first)
+}
+
+/// The least value of a window above one of its values that isn't excluded.
+#[inline(always)]
+pub fn next_sifted<S: Scale>(
+    scale: &S,
+    window: Window,
+    excluded: &[i128],
+    next: &[Option<i128>],
+    value: i128,
+) -> Option<i128>
+    requires window { IsWindowOf (S.ladder scale.now) window }
+    requires ascending { AreAscending excluded.now }
+    requires len { length next.now ≡ length excluded.now }
+    requires next { AreNext (S.ladder scale.now) window excluded.now next.now (value +ℤ pos 1) }
+    requires value { IsInWindow (S.ladder scale.now) window value }
+    ensures { IsLeastOf (λ v. IsSifted (S.ladder scale.now) window excluded.now v × (value <ℤ v)) result }
+{
+    let Some(first) = next_in(scale, window, value) else {
+        return None;
+    };
+    or_next(excluded, next, first)
+}
+
+/// A value, unless it is excluded, and else what is next to it.
+#[inline(always)]
+fn or_next(excluded: &[i128], next: &[Option<i128>], value: i128) -> Option<i128>
+    requires ascending { AreAscending excluded.now }
+    requires len { length next.now ≡ length excluded.now }
+    ensures { IsItOrNext excluded.now next.now value result }
+{
+    match index_of(excluded, value) {
+        Some(index) => next[index],
+        None => Some(value),
     }
 }
 
@@ -55,11 +89,11 @@ fn first_sifted_above<S: Scale>(
     next: &[Option<i128>],
     value: i128,
 ) -> Option<i128>
-    requires window { IsWindowOf (S.low scale.now) (S.high scale.now) (S.levels scale.now) window }
-    requires ascending { IsAscending excluded.now }
+    requires window { IsWindowOf (S.ladder scale.now) window }
+    requires ascending { AreAscending excluded.now }
     requires len { length next.now ≡ length excluded.now }
-    requires next { AreNext (S.IsOn scale.now) window excluded.now next.now (value +ℤ pos 1) }
-    ensures { IsLeastOf (λ v. IsSifted (S.IsOn scale.now) window excluded.now v × (value <ℤ v)) result }
+    requires next { AreNext (S.ladder scale.now) window excluded.now next.now (value +ℤ pos 1) }
+    ensures { IsLeastOf (λ v. IsSifted (S.ladder scale.now) window excluded.now v × (value <ℤ v)) result }
 {
     if value < window.most {
         first_sifted(scale, window, excluded, next, value + 1)
@@ -75,14 +109,14 @@ pub fn next_of<S: Scale>(
     window: Window,
     excluded: &[i128],
 ) -> Result<Vec<Option<i128>>, Memory>
-    requires window { IsWindowOf (S.low scale.now) (S.high scale.now) (S.levels scale.now) window }
-    requires ascending { IsAscending excluded.now }
+    requires window { IsWindowOf (S.ladder scale.now) window }
+    requires ascending { AreAscending excluded.now }
     ensures len { IfOk result (λ next. length next.items ≡ length excluded.now) }
-    ensures next { IfOk result (λ next. (bound : ℤ) → AreNext (S.IsOn scale.now) window excluded.now next.items bound) }
+    ensures next { IfOk result (λ next. (bound : ℤ) → AreNext (S.ladder scale.now) window excluded.now next.items bound) }
 {
     let mut next = vec![in alloc; None; excluded.len()]?;
-    for place in (0..excluded.len()).rev() {
-        next[place] = first_sifted_above(scale, window, excluded, next.as_slice(), excluded[place]);
+    for index in (0..excluded.len()).rev() {
+        next[index] = first_sifted_above(scale, window, excluded, next.as_slice(), excluded[index]);
     }
     Ok(next)
 }

@@ -3,7 +3,7 @@
 ghost use Rattle.std.specs.Prelude.{◌≡◌, IfOk};
 
 use crate::numbers::Numbers;
-use helix_base::Memory;
+use helix_base::{Memory, TryCopy};
 use std::alloc::Global;
 
 /// What a value of a ladder is tested for.
@@ -24,6 +24,7 @@ pub enum GridTest {
 }
 
 impl GridTest {
+    /// An equal test.
     pub fn copy(&self, alloc: Global) -> Result<GridTest, Memory>
         ensures { IfOk result (λ copy. copy ≡ self.now) }
     {
@@ -36,4 +37,21 @@ impl GridTest {
             GridTest::NoneOf(others) => GridTest::NoneOf(others.copy(alloc)?),
         })
     }
+}
+
+impl TryCopy for GridTest {
+    fn try_copy(&self, alloc: Global) -> Result<GridTest, Memory> {
+        self.copy(alloc)
+    }
+}
+
+/// The same tests.
+pub fn copy_tests(alloc: Global, tests: &[GridTest]) -> Result<Vec<GridTest>, Memory>
+    ensures { IfOk result (λ copies. copies.items ≡ tests.now) }
+{
+    let mut copies = Vec::new(alloc);
+    for test in tests {
+        copies.push(test.copy(alloc)?)?;
+    }
+    Ok(copies)
 }

@@ -1,6 +1,7 @@
 //! Grids over numbers and moments.
 
 ghost use Rattle.std.specs.Prelude.{◌↔◌, IsTrue};
+ghost use Rattle.std.specs.List.{All};
 ghost use Rattle.helix_grids.specs.Tests.{NamesLevelBelow};
 
 mod scan;
@@ -29,6 +30,27 @@ fn names_level_below(levels: u32, test: &GridTest) -> bool
         GridTest::On(level) | GridTest::Off(level) => *level < levels,
         _ => true,
     }
+}
+
+/// Whether each of these tests names a level below this number, if any.
+fn name_levels_below(levels: u32, tests: &[GridTest]) -> bool
+    ensures { IsTrue result ↔ All (NamesLevelBelow levels) tests.now }
+{
+    tests.iter().all(|test| names_level_below(levels, test))
+}
+
+/// A grid of all these tests at once.
+fn whole<S: Scale + Copy + Drop>(
+    rt: &impl Abort,
+    alloc: Global,
+    scale: S,
+    level: u32,
+    tests: &[GridTest],
+) -> Result<Grid<S>, Memory> {
+    let levels = scale.levels();
+    assert!(rt; level < levels);
+    assert!(rt; name_levels_below(levels, tests));
+    Grid::of(alloc, scale, level, tests)
 }
 
 /// A grid that met these tests.
@@ -206,6 +228,31 @@ fn a_run_of_exclusions_is_skipped(rt: HostRuntime) -> Result<(), Fail> {
     apart.meet(&GridTest::Most(10_001))?;
     assert_eq!(rt; apart.at_or_after(0), Some(10_001));
     assert_eq!(rt; apart.at_or_after(10_002), None);
+    Ok(())
+}
+
+// Met one by one, these sets take seconds.
+#[test]
+fn a_thousand_sets_are_met_at_once(rt: HostRuntime) -> Result<(), Fail> {
+    let alloc = rt.alloc();
+    let mut tests = Vec::new(alloc);
+    for set in 0..1_000u32 {
+        let mut others = Numbers::new(alloc);
+        for number in 0..100u32 {
+            others.push(i128::from(set + 1_000 * number))?;
+        }
+        tests.push(GridTest::NoneOf(others))?;
+    }
+    let apart = whole(&rt, alloc, Decades, 0, tests.as_slice())?;
+    let cases = [
+        (-1, -1),
+        (0, 100_000),
+        (77_777, 100_000),
+        (100_001, 100_001),
+    ];
+    for (bound, want) in cases {
+        assert_eq!(rt; apart.at_or_after(bound), Some(want), "{bound}");
+    }
     Ok(())
 }
 

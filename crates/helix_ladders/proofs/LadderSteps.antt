@@ -1,4 +1,4 @@
--- The next month start and the next year start of the calendar.
+-- The month starts and year starts next to a day of the calendar.
 use Rattle.std.proofs.Common.{◌≡◌, ◌≢◌, ℕ, ◌+◌, ◌-◌, ◌<◌, ◌≤◌, ◌⊎◌, inl, inr, ℤ, pos, ◌≤ℤ◌, refl, ap, subst, arith}
 use Rattle.std.proofs.Common.{⊎_elim}
 use Rattle.std.proofs.lemmas.Bool.{cases_lt, cases_order}
@@ -6,7 +6,7 @@ use Rattle.std.proofs.lemmas.Int.{ints}
 use Rattle.jiff_core.proofs.CalendarLemmas.{days_in_month_bounds}
 use Rattle.helix_ladders.specs.Calendar.{sum_up_to, IsDate, days_of_year, days_of_month, year_start, month_start, day_number, days_of_calendar, midnight}
 use Rattle.helix_ladders.specs.Grids.{IsMonthStart, IsYearStart}
-use Rattle.helix_ladders.specs.Scale.{IsLeast}
+use Rattle.helix_ladders.specs.Scale.{IsLeast, IsGreatest}
 use Rattle.helix_ladders.proofs.Totals.{sum_up_to-zero, sum_up_to-suc, sum_up_to-le, sum_up_to-next}
 use Rattle.helix_ladders.proofs.GregorianYears.{days_of_months, end_of_calendar}
 use Rattle.helix_ladders.proofs.CivilDates.{month_end, year_end, in_calendar}
@@ -164,6 +164,76 @@ module _ (year month number : ℕ) (date : IsDate year month number) where
       ends =
           let end : 9999 ≡ year + 1 - 1 = omega (arith, date.year_to_9999) in
           subst (λ n. sum_up_to days_of_year n ≡ days_of_calendar) end end_of_calendar
+
+  -- a month that has begun by a day of this one has begun by this one's first day
+  earlier_month : (y m : ℕ) → IsDate y m 1 → day_number y m 1 ≤ day_number year month number → day_number y m 1 ≤ month_start year month
+  earlier_month y m other begun =
+      elim (cases_order y year) [
+        | inl same ↦
+            let same_start : day_number y m 1 ≡ month_start year m = subst (λ k. day_number y m 1 ≡ month_start k m) same (omega arith) in
+            ⊎_elim {A = month < m} {B = m ≤ month}
+            (λ after. absurd (omega (arith, date.day_to_last, date.day_from_1, sum_up_to-next (days_of_month year) month date.month_from_1, sum_up_to-le (days_of_month year) (month + 1 - 1) (m - 1) (omega arith))))
+            (λ before. omega (arith, sum_up_to-le (days_of_month year) (m - 1) (month - 1) (omega arith)))
+            (cases_lt month m)
+        | inr (inl before) ↦
+            omega (
+              arith,
+              year_end y m 1 other,
+              sum_up_to-next days_of_year y other.year_from_1,
+              sum_up_to-le days_of_year (y + 1 - 1) (year - 1) (omega arith),
+            )
+        | inr (inr after) ↦
+            absurd
+            (omega (
+              arith,
+              month_end year month number date,
+              date.day_to_last,
+              date.day_from_1,
+              sum_up_to-next days_of_year year date.year_from_1,
+              sum_up_to-le days_of_year (year + 1 - 1) (y - 1) (omega arith),
+            ))
+      ]
+
+  -- this month is the last that has begun by a day of it
+  pub month_start_greatest : (day first : ℕ) → day_number year month number ≡ day → first ≡ day + 1 - number
+      → IsGreatest (λ v. IsMonthStart v × (v ≤ℤ midnight day)) (midnight first)
+  month_start_greatest day first is back =
+      let there : first ≡ day_number year month 1 = omega (arith, date.day_from_1) in
+      record {
+        has = ((year, month, first_of_month year month date.year_from_1 date.year_to_9999 date.month_from_1 date.month_to_12, ap midnight there), omega (arith, ints, date.day_from_1));
+        greatest = λ w h. greatest_of w h.0 h.1;
+      }
+    where
+      greatest_of : (w : ℤ) → IsMonthStart w → w ≤ℤ midnight day → w ≤ℤ midnight first
+      greatest_of w (y, m, other, start) within =
+          rw start (omega (arith, ints, date.day_from_1, earlier_month y m other (omega (arith, ints, rw start at within))))
+
+  -- and this year
+  pub year_start_greatest : (day : ℕ) → day_number year month number ≡ day
+      → IsGreatest (λ v. IsYearStart v × (v ≤ℤ midnight day)) (midnight (day_number year 1 1))
+  year_start_greatest day is =
+      record {
+        has = ((year, first_of_month year 1 date.year_from_1 date.year_to_9999 (omega arith) (omega arith), refl), omega (arith, ints, sum_up_to-zero (days_of_month year)));
+        greatest = λ w h. greatest_of w h.0 h.1;
+      }
+    where
+      earlier : (y : ℕ) → IsDate y 1 1 → day_number y 1 1 ≤ day_number year month number → day_number y 1 1 ≤ day_number year 1 1
+      earlier y other begun =
+          ⊎_elim {A = year < y} {B = y ≤ year}
+          (λ after.
+          absurd
+          (omega (
+            arith,
+            year_end year month number date,
+            sum_up_to-next days_of_year year date.year_from_1,
+            sum_up_to-le days_of_year (year + 1 - 1) (y - 1) (omega arith),
+          )))
+          (λ before. omega (arith, sum_up_to-zero (days_of_month y), sum_up_to-zero (days_of_month year), sum_up_to-le days_of_year (y - 1) (year - 1) (omega arith)))
+          (cases_lt year y)
+
+      greatest_of : (w : ℤ) → IsYearStart w → w ≤ℤ midnight day → w ≤ℤ midnight (day_number year 1 1)
+      greatest_of w (y, other, start) within =
+          rw start (omega (arith, ints, earlier y other (omega (arith, ints, rw start at within))))
 
   pub new_year_in_calendar : year < 9999 → day_number (year + 1) 1 1 < days_of_calendar
   new_year_in_calendar within = in_calendar (year + 1) 1 1 (first_of_month (year + 1) 1 (omega arith) (omega arith) (omega arith) (omega arith))

@@ -9,5 +9,6 @@ pub mod PowersOfTen
 pub mod JiffDates
 pub mod LadderSteps
 pub mod Raised
+pub mod UnitsOfTime
 pub mod ShiftedSums
 pub mod DaysHaveDates

@@ -71,7 +71,7 @@ last_below_here : (test : ℕ → Bool) (n : ℕ) → test n ≡ true → IsLast
 unfolding last_below
 last_below_here test n is = record { found = rw is refl; below = omega arith; passes = is; last = λ j above within. absurd (omega arith) }
 
--- one that passes has a last one at or behind it
+-- one that passes has a last one at it or after it
 pub last_below_is : (test : ℕ → Bool) (n first : ℕ) → first < n → test first ≡ true → (k : ℕ) × (first ≤ k) × IsLastBelow test n k
 last_below_is test zero first below passes = absurd (omega arith)
 last_below_is test (suc n) first below passes = here (test n) refl (λ before. last_below_is test n first before passes)

@@ -68,9 +68,13 @@ day_of_month day = day - month_start (year_of day) (month_of day) + 1
 abbrev pub millis_of_day : ℕ
 millis_of_day = 86400000
 
+-- the last millisecond of the year 9999
+abbrev pub last_moment : ℕ
+last_moment = 315537897599999
+
 -- a millisecond of the years 1 to 9999
 abbrev pub IsMoment : ℤ → Type 0
-IsMoment at = (pos 0 ≤ℤ at) × (at ≤ℤ pos 315537897599999)
+IsMoment at = (pos 0 ≤ℤ at) × (at ≤ℤ pos last_moment)
 
 -- the day of a moment; before all of them lies the first day, after all of them the last one
 abbrev pub day_of : ℤ → ℕ

@@ -7,11 +7,11 @@ use Rattle.helix_ladders.specs.declared.offset.Offset.{Offset}
 use Rattle.helix_ladders.specs.declared.offset.Offset.TheVariants.{Plain, Months, Years, WorkingDays}
 use Rattle.helix_ladders.specs.Calendar.{last_below, days_of_calendar, year_of, month_of, day_of_month, days_of_month, day_number, day_of, midnight}
 
--- what stands for a day after 9999-12-31: the millisecond after the last moment
+-- the moment that a day after 9999-12-31 is given: the millisecond after the last moment
 abbrev pub after_all : ℤ
 after_all = midnight days_of_calendar
 
--- what stands for a day before 0001-01-01: the millisecond before the first moment
+-- the moment that a day before 0001-01-01 is given: the millisecond before the first moment
 abbrev pub before_all : ℤ
 before_all = negsuc 0
 
@@ -30,7 +30,7 @@ abbrev pub midnight_in_month : ℤ → ℕ → ℤ
 midnight_in_month (pos index) day = if nat_lt index (12 * 9999) then midnight (day_in_month index day) else after_all
 midnight_in_month (negsuc below) day = before_all
 
--- the day of the same number so many months later
+-- the day of the same number `months` months later
 abbrev pub shifted_months : ℤ → ℕ → ℤ
 shifted_months months day = midnight_in_month (pos (month_index day) +ℤ months) (day_of_month day)
 
@@ -53,7 +53,7 @@ abbrev pub is_working_day_ahead : ℕ → ℕ → ℕ → Bool
 is_working_day_ahead count day earlier =
     nat_lt earlier day && is_working_day earlier && (working_days_before earlier + count == working_days_before day)
 
--- the day so many working days later or earlier, of which there is one at most
+-- the day that is n working days later or earlier, of which there is one at most
 abbrev pub shifted_working_days : ℤ → ℕ → ℤ
 shifted_working_days (pos zero) day = midnight day
 shifted_working_days (pos (suc n)) day = option_map_or midnight (last_below (is_working_day_after (suc n) day) days_of_calendar) after_all

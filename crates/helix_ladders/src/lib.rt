@@ -1,13 +1,24 @@
 //! Ladders of grids over whole numbers: the calendar, the levels of numbers and of moments, and the
-//! offsets between two values.
+//! offsets between two values. A number is in whole units of 10^-15, a moment in milliseconds from
+//! 0001-01-01T00:00:00.000; contracts see both as whole numbers (ℤ).
 //!
-//! A number is kept in whole units of 10^-15, a moment in milliseconds from
-//! 0001-01-01T00:00:00.000. Contracts see both as whole numbers (ℤ). A [`Scale`] is a range with
-//! levels, each of which is part of the finer ones; [`Decades`] is that of numbers and [`Calendar`]
-//! that of moments. A [`Shift`] keeps the order of values. Asking any of them takes no memory.
+//! ```text
+//! let tenth = Decades.ceil(14, 1);                    // Some(100_000_000_000_000): 0.1
+//! let month = Calendar.floor(5, 63_843_000_000_000);  // Some(63_842_342_400_000): 2024-02-01
+//! let later = shifted(Offset::Months(1), 0);          // 31 days, in milliseconds
+//! ```
 //!
-//! The definitions stand in `specs/`: `Calendar` first, then `Grids` and `Scale` for the levels,
-//! and `Shift` for where a shifted value lies.
+//! - [`Scale`] is a range with levels, each a part of the finer ones: [`Decades`] those of numbers,
+//!   [`Calendar`] those of moments. [`Scale::ceil`] is the least value on a level from a bound on and
+//!   [`Scale::floor`] the greatest up to it, each exactly, `None` where there is none. Each value on a
+//!   level is a multiple of [`Scale::step`], and on a regular level each multiple is a value on it.
+//! - [`Shift`] keeps the order of values; [`Shift::least_from`] inverts it. [`shifted`] is where a
+//!   value lies by the definition, in loops over days.
+//! - [`date_of`] and [`day_number`] are inverse to each other on the years 1 to 9999.
+//!
+//! Asking any of them takes no memory. A number within 64 bits costs one division, as does one that
+//! the power of two in the step leaves within them. The definitions are in `specs/`: `Calendar`
+//! first, then `Grids` and `Scale` for the levels, `Ladders` for the two ladders, and `Shift`.
 #![tactic(auto)]
 
 mod calendar;
@@ -25,7 +36,7 @@ pub use calendar::{
     DAYS, Date, LAST_MOMENT, MILLIS_OF_DAY, date_of, day_number, days_of_month, midnight,
 };
 pub use calendar_ladder::Calendar;
-pub use decades::{Decades, GREATEST, ONE, power_of_ten};
+pub use decades::{Decades, GREATEST, ONE, power_of_ten, split_units};
 pub use grids::{is_on_moment_grid, is_on_number_grid};
 pub use multiples::is_multiple_of;
 pub use offset::Offset;

@@ -3,12 +3,12 @@
 /// How far a value is shifted. `specs/Shift.antt` says where a shifted value lies.
 #[derive(Clone, Copy, Debug, PartialEq, Eq)]
 pub enum Offset {
-    /// So many units of a number, or milliseconds of a moment.
+    /// Units of a number, or milliseconds of a moment.
     Plain(i128),
-    /// So many months: the day of the same number, or the last one of a shorter month.
+    /// Months: the day of the same number, or the last one of a shorter month.
     Months(i64),
-    /// So many times twelve months.
+    /// Years, each of twelve months.
     Years(i64),
-    /// So many days from Monday to Friday.
+    /// Working days, from Monday to Friday.
     WorkingDays(i64),
 }

@@ -7,10 +7,10 @@ ghost use Rattle.helix_ladders.specs.Shift.{IsShiftable, shifted as shifted_valu
 use crate::calendar::{DAYS, MILLIS_OF_DAY, date_of, day_number, days_of_month, midnight};
 use crate::offset::Offset;
 
-/// What stands for a day before 0001-01-01.
+/// The moment that a day before 0001-01-01 is given.
 const BEFORE_ALL: i64 = -1;
 
-/// What stands for a day after 9999-12-31.
+/// The moment that a day after 9999-12-31 is given.
 const AFTER_ALL: i64 = 315_537_897_600_000;
 
 /// A value shifted by an offset: a sum, or the first millisecond of a day.

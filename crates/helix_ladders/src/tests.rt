@@ -1,2 +1,3 @@
 mod dates;
+mod floors;
 mod ladders;

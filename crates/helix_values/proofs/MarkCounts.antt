@@ -14,7 +14,7 @@ use Rattle.helix_values.specs.Order.{cell_cmp, CellLess}
 use Rattle.helix_values.specs.Universe.{InUniverse}
 use Rattle.helix_values.specs.View.{cell_of}
 use Rattle.helix_values.specs.Marks.{IsAdmitted}
-use Rattle.helix_values.specs.Counts.{widest_kind, natural, values_of, values_below, values_up_to, values_left, IsBound, IsMarkOf}
+use Rattle.helix_values.specs.Counts.{widest_kind, natural, values_of, values_below, values_up_to, values_left, IsMarkBound, IsMarkOf}
 use Rattle.helix_values.proofs.TotalOrder.{cell_cmp_total, cell_cmp-IsAntisymmetric, never_before_itself}
 use Rattle.helix_values.proofs.TextCounts.{text_count, up_to_all, text_counts_rise}
 
@@ -33,7 +33,7 @@ null_last (cell.Moment b) less = cc
 null_last (cell.Text b) less = cc
 
 -- a later cell has all up to an earlier one below it
-counts_rise : (class : Class) (a b : Cell) → IsBound class a → IsBound class b → CellLess a b → values_up_to class a ≤ values_below class b
+counts_rise : (class : Class) (a b : Cell) → IsMarkBound class a → IsMarkBound class b → CellLess a b → values_up_to class a ≤ values_below class b
 counts_rise class cell.Null b of_a of_b less = absurd (null_last b less)
 counts_rise booleans (cell.Bool false) (cell.Bool true) of_a of_b less = omega arith
 counts_rise booleans (cell.Bool false) (cell.Bool false) of_a of_b less = cc
@@ -73,7 +73,7 @@ counts_within numbers other within = absurd within
 counts_within moments other within = absurd within
 counts_within strings other within = absurd within
 
-bound_of : (class : Class) (v : Cell) → InUniverse (widest_kind class) v → IsBound class v
+bound_of : (class : Class) (v : Cell) → InUniverse (widest_kind class) v → IsMarkBound class v
 bound_of booleans (cell.Bool b) within = refl
 bound_of numbers (cell.Number u) within = refl
 bound_of moments (cell.Moment at) within = refl

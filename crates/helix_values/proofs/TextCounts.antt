@@ -54,7 +54,7 @@ nat_less x y less = subst (λ o. MatchOrdering o (x < y) (x ≡ y) (y < x)) less
 nat_equal : (x y : ℕ) → nat_cmp x y ≡ Equal → x ≡ y
 nat_equal x y equal = subst (λ o. MatchOrdering o (x < y) (x ≡ y) (y < x)) equal (ranked x y (nat_cmp x y) refl)
 
--- of one length there are so many texts
+-- how many texts of one length there are
 power_more : (n : ℕ) → characters ^ suc n ≡ characters * characters ^ n
 power_more n =
     let sum : 1 + n ≡ suc n = omega arith in
@@ -100,7 +100,7 @@ shorter_rise m n below =
     let sum : (n - m) + m ≡ n = omega arith in
     subst (λ k. shorter_texts m ≤ shorter_texts k) sum (shorter_by (n - m) m)
 
--- how many texts are below a text, of those with at most so many characters
+-- how many texts are below a text, of those with at most this many characters
 pub record IsTextCount (limit : ℕ) (text : List ℕ) (below up_to : ℕ) : Type 0 where
   pub short : length text ≤ limit → (below ≡ shorter_texts (length text) + same_length_below text) × (up_to ≡ below + 1)
   pub long : limit < length text → (below ≡ shorter_texts (limit + 1)) × (up_to ≡ below)

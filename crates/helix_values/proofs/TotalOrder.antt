@@ -8,7 +8,7 @@ use Rattle.std.proofs.lemmas.Cmp.{nat_cmp_total, int_cmp_total, nat_list_cmp_tot
 use Rattle.std.specs.FinMap.{IsAntisymmetric, nat_cmp-IsAntisymmetric, int_cmp-IsAntisymmetric, slice_cmp-IsAntisymmetric}
 use Rattle.helix_values.specs.declared.cell.Cell.{Cell}
 use Rattle.helix_values.specs.declared.cell.Cell.TheVariants as cell
-use Rattle.helix_values.specs.Order.{text_cmp, place_of, cell_cmp, row_cmp}
+use Rattle.helix_values.specs.Order.{text_cmp, rank_of, cell_cmp, row_cmp}
 
 -- an order that answers as a total one is total
 total_by : {K : Type 0} {R S : K → K → Ordering} → ((x y : K) → R x y ≡ S x y) → IsTotalOrder S → IsTotalOrder R
@@ -36,7 +36,7 @@ codes_of other = []
 
 -- the order of cells as a chain of orders: by place, by truth, by number, by text
 chain : Cell → Cell → Ordering
-chain = then_cmp (on place_of nat_cmp) (then_cmp (on truth_of bool_cmp) (then_cmp (on number_of int_cmp) (on codes_of text_cmp)))
+chain = then_cmp (on rank_of nat_cmp) (then_cmp (on truth_of bool_cmp) (then_cmp (on number_of int_cmp) (on codes_of text_cmp)))
 
 then_equal : (o : Ordering) → o ≡ ordering_then o Equal
 then_equal Less = refl
@@ -56,7 +56,7 @@ pub cell_cmp_total : IsTotalOrder cell_cmp
 unfolding chain
 cell_cmp_total =
     total_by cell_cmp-chain
-    (then_total (on_total place_of nat_cmp_total) (then_total (on_total truth_of bool_cmp_total) (then_total (on_total number_of int_cmp_total) (on_total codes_of text_cmp_total))))
+    (then_total (on_total rank_of nat_cmp_total) (then_total (on_total truth_of bool_cmp_total) (then_total (on_total number_of int_cmp_total) (on_total codes_of text_cmp_total))))
 
 pub row_cmp_total : IsTotalOrder row_cmp
 row_cmp_total = lists_total cell_cmp_total

@@ -1,26 +1,25 @@
 -- The check rules of ISIN (ISO 6166), SEDOL and CUSIP (ANSI X9.6).
 use Rattle.std.specs.Prelude.{ℕ, ◌+◌, ◌-◌, ◌*◌, ◌/◌, ◌%◌, Bool, false, not, ◌&&◌, ◌||◌, ◌==◌, nat_le, IsTrue, if◌then◌else◌, List, [], ◌∷◌, length, take, drop, map, reverse}
 use Rattle.std.specs.List.{list_all, list_any, flat_map}
+use Rattle.helix_base.specs.Digits.{is_digit}
+use Rattle.helix_base.specs.Weights.{weighted_sum}
 use Rattle.helix_values.specs.declared.kind.Code.{Code}
 use Rattle.helix_values.specs.declared.kind.Code.TheVariants.{Isin, Sedol, Cusip}
 
-abbrev pub is_digit : ℕ → Bool
-is_digit c = nat_le 48 c && nat_le c 57
+-- from `A` (65) to `Z` (90)
+abbrev pub is_capital : ℕ → Bool
+is_capital c = nat_le 65 c && nat_le c 90
 
--- from A to Z
-abbrev pub is_letter : ℕ → Bool
-is_letter c = nat_le 65 c && nat_le c 90
-
-abbrev pub is_letter_or_digit : ℕ → Bool
-is_letter_or_digit c = is_letter c || is_digit c
+abbrev pub is_capital_or_digit : ℕ → Bool
+is_capital_or_digit c = is_capital c || is_digit c
 
 -- a digit, or a letter other than A, E, I, O and U
 abbrev pub is_sedol_character : ℕ → Bool
-is_sedol_character c = is_letter_or_digit c && not (list_any (λ v. c == v) (65 ∷ 69 ∷ 73 ∷ 79 ∷ 85 ∷ []))
+is_sedol_character c = is_capital_or_digit c && not (list_any (λ v. c == v) (65 ∷ 69 ∷ 73 ∷ 79 ∷ 85 ∷ []))
 
 -- a digit, a letter, `*`, `@` or `#`
 abbrev pub is_cusip_character : ℕ → Bool
-is_cusip_character c = is_letter_or_digit c || list_any (λ s. c == s) (42 ∷ 64 ∷ 35 ∷ [])
+is_cusip_character c = is_capital_or_digit c || list_any (λ s. c == s) (42 ∷ 64 ∷ 35 ∷ [])
 
 -- a digit's own value, 10 to 35 for A to Z, and 36 to 38 for `*`, `@` and `#`
 abbrev pub value_of : ℕ → ℕ
@@ -41,17 +40,12 @@ digits_of c = if is_digit c then value_of c ∷ [] else value_of c / 10 ∷ valu
 
 -- two letters, nine letters or digits, one digit
 abbrev pub is_isin_shape : List ℕ → Bool
-is_isin_shape word = list_all is_letter (take 2 word) && list_all is_letter_or_digit (drop 2 word) && list_all is_digit (drop 11 word)
+is_isin_shape word = list_all is_capital (take 2 word) && list_all is_capital_or_digit (drop 2 word) && list_all is_digit (drop 11 word)
 
 -- of the digits of all characters, counted from the last, each second one is doubled
 abbrev pub is_isin : List ℕ → Bool
 is_isin word =
     (length word == 12) && is_isin_shape word && (doubled_sum false (reverse (flat_map digits_of word)) % 10 == 0)
-
--- the products of the weights and the values of the characters, added
-abbrev pub weighted_sum : List ℕ → List ℕ → ℕ
-weighted_sum (w ∷ ws) (c ∷ cs) = w * value_of c + weighted_sum ws cs
-weighted_sum ws cs = 0
 
 abbrev pub sedol_weights : List ℕ
 sedol_weights = 1 ∷ 3 ∷ 1 ∷ 7 ∷ 3 ∷ 9 ∷ 1 ∷ []
@@ -60,8 +54,9 @@ sedol_weights = 1 ∷ 3 ∷ 1 ∷ 7 ∷ 3 ∷ 9 ∷ 1 ∷ []
 abbrev pub is_sedol_shape : List ℕ → Bool
 is_sedol_shape word = list_all is_sedol_character word && list_all is_digit (drop 6 word)
 
+-- the products of the weights and the values of the characters, added
 abbrev pub is_sedol : List ℕ → Bool
-is_sedol word = (length word == 7) && is_sedol_shape word && (weighted_sum sedol_weights word % 10 == 0)
+is_sedol word = (length word == 7) && is_sedol_shape word && (weighted_sum sedol_weights (map value_of word) % 10 == 0)
 
 -- eight digits, letters or signs, one digit
 abbrev pub is_cusip_shape : List ℕ → Bool

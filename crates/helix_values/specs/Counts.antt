@@ -76,11 +76,11 @@ values_left class (At bound) = values_of class - values_below class (cell_of bou
 values_left class (After bound) = values_of class - values_up_to class (cell_of bound)
 
 -- the bound of a mark is null or a value of the class, a text over the alphabet
-abbrev pub IsBound : Class → Cell → Type 0
-IsBound class (cell.Text text) = (class ≡ strings) × All (IsCharacterOf Unicode) text
-IsBound class other = IsNullOr class other
+abbrev pub IsMarkBound : Class → Cell → Type 0
+IsMarkBound class (cell.Text text) = (class ≡ strings) × All (IsCharacterOf Unicode) text
+IsMarkBound class other = IsNullOr class other
 
 abbrev pub IsMarkOf : Class → Mark → Type 0
 IsMarkOf class Start = Unit {0}
-IsMarkOf class (At bound) = IsBound class (cell_of bound)
-IsMarkOf class (After bound) = IsBound class (cell_of bound)
+IsMarkOf class (At bound) = IsMarkBound class (cell_of bound)
+IsMarkOf class (After bound) = IsMarkBound class (cell_of bound)

@@ -3,7 +3,10 @@ pub mod Class
 pub mod Order
 pub mod Codes
 pub mod Universe
+pub mod OwnLevel
 pub mod Slot
+pub mod Lending
 pub mod Marks
 pub mod Counts
+pub mod UniverseLaws
 pub mod OnGrid

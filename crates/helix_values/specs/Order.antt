@@ -11,13 +11,13 @@ use Rattle.helix_values.specs.declared.cell.Cell.TheVariants as cell
 abbrev pub text_cmp : List ℕ → List ℕ → Ordering
 text_cmp a b = ordering_then (nat_cmp (length a) (length b)) (slice_cmp nat_cmp a b)
 
--- null stands last. Values of two classes never stand in one field; a place for each class makes the order total.
-abbrev pub place_of : Cell → ℕ
-place_of (cell.Bool truth) = 0
-place_of (cell.Number units) = 1
-place_of (cell.Moment at) = 2
-place_of (cell.Text codes) = 3
-place_of cell.Null = 4
+-- null is last. Values of two classes are never in one field; a rank for each class makes the order total.
+abbrev pub rank_of : Cell → ℕ
+rank_of (cell.Bool truth) = 0
+rank_of (cell.Number units) = 1
+rank_of (cell.Moment at) = 2
+rank_of (cell.Text codes) = 3
+rank_of cell.Null = 4
 
 -- false before true, the smaller number first, the earlier moment first, texts by length and then by code points,
 -- null last
@@ -26,7 +26,7 @@ cell_cmp (cell.Bool a) (cell.Bool b) = bool_cmp a b
 cell_cmp (cell.Number a) (cell.Number b) = int_cmp a b
 cell_cmp (cell.Moment a) (cell.Moment b) = int_cmp a b
 cell_cmp (cell.Text a) (cell.Text b) = text_cmp a b
-cell_cmp a b = nat_cmp (place_of a) (place_of b)
+cell_cmp a b = nat_cmp (rank_of a) (rank_of b)
 
 abbrev pub CellLess : Cell → Cell → Type 0
 CellLess a b = cell_cmp a b ≡ Less

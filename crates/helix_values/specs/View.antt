@@ -1,13 +1,13 @@
--- The cell that a lent cell shows.
+-- The cell that a borrowed cell shows.
 use Rattle.helix_values.specs.declared.cell.Cell.{Cell}
 use Rattle.helix_values.specs.declared.cell.Cell.TheVariants as cell
 use Rattle.helix_values.specs.declared.cell.CellRef.{CellRef}
-use Rattle.helix_values.specs.declared.cell.CellRef.TheVariants as lent
+use Rattle.helix_values.specs.declared.cell.CellRef.TheVariants as borrowed
 
--- the same null or value, with the code points that a lent text points to
+-- the same null or value, with the code points that a borrowed text points to
 abbrev pub cell_of : CellRef → Cell
-cell_of lent.Null = cell.Null
-cell_of (lent.Bool truth) = cell.Bool truth
-cell_of (lent.Number units) = cell.Number units
-cell_of (lent.Moment millis) = cell.Moment millis
-cell_of (lent.Text codes) = cell.Text codes.now
+cell_of borrowed.Null = cell.Null
+cell_of (borrowed.Bool truth) = cell.Bool truth
+cell_of (borrowed.Number units) = cell.Number units
+cell_of (borrowed.Moment millis) = cell.Moment millis
+cell_of (borrowed.Text codes) = cell.Text codes.now

@@ -3,7 +3,7 @@
 ghost use Rattle.std.specs.Prelude.{◌≡◌, IfOk};
 ghost use Rattle.helix_values.specs.View.{cell_of};
 
-use helix_base::{Memory, Text};
+use helix_base::{Memory, Text, TryCopy};
 use std::alloc::Global;
 
 /// Null or a value of a field.
@@ -22,7 +22,7 @@ pub enum Cell {
     Text(Text),
 }
 
-/// A [`Cell`] that is lent, with a text as its code points.
+/// A [`Cell`] that is borrowed, with a text as its code points.
 #[derive(Clone, Copy, Debug, PartialEq)]
 pub enum CellRef<'a> {
     Null,
@@ -33,7 +33,7 @@ pub enum CellRef<'a> {
 }
 
 impl Cell {
-    /// Lends the cell.
+    /// The cell, borrowed.
     pub fn view(&self) -> CellRef<'_>
         ensures { cell_of result ≡ self.now }
     {
@@ -46,6 +46,7 @@ impl Cell {
         }
     }
 
+    /// An equal cell.
     pub fn copy(&self, alloc: Global) -> Result<Cell, Memory>
         ensures { IfOk result (λ copy. copy ≡ self.now) }
     {
@@ -56,5 +57,11 @@ impl Cell {
             Cell::Moment(millis) => Cell::Moment(*millis),
             Cell::Text(text) => Cell::Text(text.copy(alloc)?),
         })
+    }
+}
+
+impl TryCopy for Cell {
+    fn try_copy(&self, alloc: Global) -> Result<Cell, Memory> {
+        self.copy(alloc)
     }
 }

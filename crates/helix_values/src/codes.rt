@@ -3,13 +3,16 @@
 ghost use Rattle.std.specs.Prelude.{◌≡◌, ◌↔◌, ◌^◌, ◌<◌, ◌≤◌, IsTrue, false, reverse, map, length};
 ghost use Rattle.std.specs.Prelude.{if◌then◌else◌, ◌*◌};
 ghost use Rattle.std.specs.List.{flat_map, list_all};
+ghost use Rattle.helix_base.specs.Digits.{is_digit as digit};
+ghost use Rattle.helix_base.specs.Weights.{weighted_sum};
 ghost use Rattle.helix_values.specs.Codes.{IsValidCode, is_isin as isin, is_sedol as sedol, is_cusip as cusip};
 ghost use Rattle.helix_values.specs.Codes.{is_isin_shape as isin_shape, is_sedol_shape as sedol_shape, is_cusip_shape as cusip_shape};
-ghost use Rattle.helix_values.specs.Codes.{is_digit as digit, is_letter as letter, is_letter_or_digit as letter_or_digit};
+ghost use Rattle.helix_values.specs.Codes.{is_capital as capital, is_capital_or_digit as capital_or_digit};
 ghost use Rattle.helix_values.specs.Codes.{is_sedol_character as sedol_character, is_cusip_character as cusip_character};
-ghost use Rattle.helix_values.specs.Codes.{value_of as value, digits_of, digit_sum, doubled_sum, weighted_sum, sedol_weights};
+ghost use Rattle.helix_values.specs.Codes.{value_of as value, digits_of, digit_sum, doubled_sum, sedol_weights};
 
 use crate::kind::Code;
+use helix_base::is_digit;
 
 /// The weights of the characters of a SEDOL.
 const SEDOL_WEIGHTS: [u64; 7] = [1, 3, 1, 7, 3, 9, 1];
@@ -47,7 +50,7 @@ fn is_isin_shape(word: &[u32]) -> bool
     requires { length word.now ≡ 12 }
     ensures { result ≡ isin_shape word.now }
 {
-    are_letters(&word[..2]) && are_letters_or_digits(&word[2..]) && are_digits(&word[11..])
+    are_capitals(&word[..2]) && are_capitals_or_digits(&word[2..]) && are_digits(&word[11..])
 }
 
 fn is_sedol_shape(word: &[u32]) -> bool
@@ -70,16 +73,16 @@ fn are_digits(word: &[u32]) -> bool
     word.iter().all(|c| is_digit(*c))
 }
 
-fn are_letters(word: &[u32]) -> bool
-    ensures { result ≡ list_all letter word.now }
+fn are_capitals(word: &[u32]) -> bool
+    ensures { result ≡ list_all capital word.now }
 {
-    word.iter().all(|c| is_letter(*c))
+    word.iter().all(|c| is_capital(*c))
 }
 
-fn are_letters_or_digits(word: &[u32]) -> bool
-    ensures { result ≡ list_all letter_or_digit word.now }
+fn are_capitals_or_digits(word: &[u32]) -> bool
+    ensures { result ≡ list_all capital_or_digit word.now }
 {
-    word.iter().all(|c| is_letter(*c) || is_digit(*c))
+    word.iter().all(|c| is_capital(*c) || is_digit(*c))
 }
 
 fn are_sedol_characters(word: &[u32]) -> bool
@@ -125,7 +128,7 @@ fn character_sum(c: u32, twice: bool) -> u64
 
 fn sedol_sum(word: &[u32]) -> u64
     requires { length word.now ≡ 7 }
-    ensures { result ≡ weighted_sum sedol_weights word.now }
+    ensures { result ≡ weighted_sum sedol_weights (map value word.now) }
 {
     let mut sum = 0;
     for (i, c) in word.iter().enumerate() {
@@ -171,26 +174,20 @@ fn value_of(c: u32) -> u64
     }
 }
 
-pub fn is_digit(c: u32) -> bool
-    ensures { result ≡ digit c }
+fn is_capital(c: u32) -> bool
+    ensures { result ≡ capital c }
 {
-    (0x30..=0x39).contains(&c)
-}
-
-fn is_letter(c: u32) -> bool
-    ensures { result ≡ letter c }
-{
-    (0x41..=0x5A).contains(&c)
+    ('A' as u32..='Z' as u32).contains(&c)
 }
 
 fn is_sedol_character(c: u32) -> bool
     ensures { result ≡ sedol_character c }
 {
-    (is_letter(c) || is_digit(c)) && !matches!(c, 0x41 | 0x45 | 0x49 | 0x4F | 0x55)
+    (is_capital(c) || is_digit(c)) && !matches!(c, 0x41 | 0x45 | 0x49 | 0x4F | 0x55)
 }
 
 fn is_cusip_character(c: u32) -> bool
     ensures { result ≡ cusip_character c }
 {
-    is_letter(c) || is_digit(c) || matches!(c, 0x2A | 0x40 | 0x23)
+    is_capital(c) || is_digit(c) || matches!(c, 0x2A | 0x40 | 0x23)
 }

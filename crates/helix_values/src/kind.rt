@@ -1,5 +1,8 @@
 //! The kinds of fields.
 
+ghost use Rattle.std.specs.Prelude.{◌≡◌};
+ghost use Rattle.helix_values.specs.OwnLevel.{own_level};
+
 use helix_base::Alphabet;
 
 /// What values a field has.
@@ -19,6 +22,20 @@ pub enum Kind {
     DateTime,
     /// The valid words of a code.
     Code(Code),
+}
+
+impl Kind {
+    /// The level of its ladder that a kind of numbers or moments has by itself.
+    pub fn own_level(self) -> Option<u32>
+        ensures { result ≡ own_level self }
+    {
+        match self {
+            Kind::Integer => Some(15),
+            Kind::Decimal | Kind::DateTime => Some(0),
+            Kind::Date => Some(4),
+            _ => None,
+        }
+    }
 }
 
 /// A code of the securities business, whose words have a check digit.

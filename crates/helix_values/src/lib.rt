@@ -2,9 +2,9 @@
 //! rules of codes.
 //!
 //! A number is kept in whole units of 10^-15, a moment in milliseconds from
-//! 0001-01-01T00:00:00.000, a text as its code points. The definitions stand in `specs/`: `Universe`
+//! 0001-01-01T00:00:00.000, a text as its code points. The definitions are in `specs/`: `Universe`
 //! and `Order` first. Setting a [`Slot`] or a cell of a [`RowBuf`] and comparing take no memory. The
-//! ladders of numbers and moments are those of `helix_ladders`, and stand here too.
+//! ladders of numbers and moments are those of `helix_ladders`, and can be imported from here too.
 #![tactic(auto)]
 
 mod cell;
@@ -22,7 +22,7 @@ mod universe;
 
 pub use cell::{Cell, CellRef};
 pub use cells::{Cells, Row};
-pub use codes::{is_digit, valid};
+pub use codes::valid;
 pub use helix_ladders::{
     Calendar, Date, Decades, Offset, Plain, Scale, Shift, date_of, day_number, days_of_month,
     shifted,

@@ -2,6 +2,8 @@
 
 ghost use Rattle.std.specs.Prelude.{◌≡◌, ◌<◌, length, replicate, slice_index_or, slice_set, IfOk};
 ghost use Rattle.helix_values.specs.declared.cell.Cell.TheVariants as cells;
+ghost use Rattle.std.specs.Borrow.{sem};
+ghost use Rattle.helix_values.specs.Lending.{LendsSlot};
 ghost use Rattle.helix_values.specs.Slot.{FitsSlot};
 ghost use Rattle.helix_values.specs.View.{cell_of};
 
@@ -27,7 +29,7 @@ impl Model for RowBuf {
 }
 
 impl RowBuf {
-    /// A row of so many fields, all null.
+    /// A row of this many fields, all null.
     pub fn open(alloc: Global, fields: usize) -> Result<RowBuf, Memory>
         ensures { IfOk result (λ row. row ≡ replicate fields cells.Null) }
     {
@@ -51,6 +53,15 @@ impl RowBuf {
         ensures { result.now ≡ slice_index_or self.now i cells.Null }
     {
         &self.slots[i]
+    }
+
+    /// Borrows the slot of a field for writing. The other cells stay.
+    pub fn slot_mut(&mut self, i: usize) -> &mut Slot
+        requires { i < length self.old }
+        ensures* writes_back { sem 𝓛 (LendsSlot self.entry i result) }
+        ensures value { result.now ≡ slice_index_or self.old i cells.Null }
+    {
+        &mut self.slots[i]
     }
 
     /// Sets the cell of a field.

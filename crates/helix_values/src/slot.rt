@@ -1,6 +1,6 @@
 //! A cell that takes no memory when it is set.
 
-ghost use Rattle.std.specs.Prelude.{◌≡◌};
+ghost use Rattle.std.specs.Prelude.{◌≡◌, ◌≤◌, length};
 ghost use Rattle.helix_values.specs.declared.cell.Cell.TheVariants as cells;
 ghost use Rattle.helix_values.specs.Slot.{FitsSlot};
 ghost use Rattle.helix_values.specs.View.{cell_of};
@@ -14,7 +14,7 @@ use std::marker::Model;
 #[derive(Drop)]
 pub struct Slot {
     held: Held,
-    // What stands here counts for a text alone.
+    // It counts for a text alone.
     text: ArrayVec<u32, 1000>,
 }
 
@@ -49,8 +49,7 @@ impl Slot {
             CellRef::Number(units) => self.held = Held::Number(units),
             CellRef::Moment(millis) => self.held = Held::Moment(millis),
             CellRef::Text(codes) => {
-                self.text.clear();
-                self.text.try_extend_from_slice(codes).unwrap();
+                overwrite(&mut self.text, codes);
                 self.held = Held::Text;
             }
         }
@@ -67,5 +66,19 @@ impl Slot {
             Held::Moment(millis) => CellRef::Moment(millis),
             Held::Text => CellRef::Text(self.text.as_slice()),
         }
+    }
+}
+
+/// Makes a text these code points. What both have room for is overwritten, since to clear a text
+/// writes over all of it.
+fn overwrite(text: &mut ArrayVec<u32, 1000>, codes: &[u32])
+    requires { length codes.now ≤ 1000 }
+    ensures { text.new.items ≡ codes.now }
+{
+    text.truncate(codes.len());
+    let common = text.len();
+    text.as_mut_slice().copy_from_slice(&codes[..common]);
+    if common < codes.len() {
+        text.try_extend_from_slice(&codes[common..]).unwrap();
     }
 }

@@ -3,7 +3,7 @@
 ghost use Rattle.std.specs.Prelude.{◌↔◌, ◌^◌, IsTrue};
 ghost use Rattle.helix_ladders.specs.Calendar.{IsMoment, millis_of_day};
 ghost use Rattle.helix_ladders.specs.Grids.{IsMultipleOf};
-ghost use Rattle.helix_values.specs.Universe.{InUniverse, IsNumber};
+ghost use Rattle.helix_values.specs.Universe.{InUniverse, IsDecimal};
 ghost use Rattle.helix_values.specs.View.{cell_of};
 
 use crate::cell::CellRef;
@@ -33,7 +33,7 @@ pub fn in_universe(kind: Kind, cell: CellRef<'_>) -> bool
 }
 
 fn is_number(units: i128) -> bool
-    ensures { IsTrue result ↔ IsNumber units }
+    ensures { IsTrue result ↔ IsDecimal units }
 {
     -GREATEST <= units && units <= GREATEST
 }

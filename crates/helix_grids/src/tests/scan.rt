@@ -1,6 +1,6 @@
 //! A grid beside a walk over all values of a small range.
 
-use super::{LAST_MOMENT, grid, numbers};
+use super::{LAST_MOMENT, grid, numbers, whole};
 use crate::GridTest;
 use helix_base::Memory;
 use helix_ladders::{Calendar, Decades, Scale};
@@ -27,7 +27,7 @@ fn passes<S: Scale>(rt: &impl Abort, scale: &S, test: &GridTest, value: i128) ->
 }
 
 /// Whether a value of the ladder is on a level and passes all tests.
-fn is_candidate<S: Scale>(
+fn is_member<S: Scale>(
     rt: &impl Abort,
     scale: &S,
     level: u32,
@@ -45,8 +45,9 @@ fn is_candidate<S: Scale>(
     true
 }
 
-/// Compares a grid with a walk from `first` over `count` values, which its tests don't leave.
-fn compare<S: Scale + Copy>(
+/// Compares a grid, met test by test and all at once, with a walk from `first` over `count` values,
+/// which its tests don't leave.
+fn compare<S: Scale + Copy + Drop>(
     rt: &impl Abort,
     alloc: Global,
     scale: S,
@@ -56,13 +57,20 @@ fn compare<S: Scale + Copy>(
     count: u16,
 ) -> Result<(), Memory> {
     let grid = grid(rt, alloc, scale, level, tests)?;
+    let whole = whole(rt, alloc, scale, level, tests)?;
     let mut want = None;
+    let mut above = None;
     for step in (0..count).rev() {
         let value = i128::from(first.wrapping_add(i64::from(step)));
-        if is_candidate(rt, &scale, level, tests, value) {
+        if is_member(rt, &scale, level, tests, value) {
+            above = want;
             want = Some(value);
         }
         assert_eq!(rt; grid.at_or_after(value), want, "{value} on {level}");
+        assert_eq!(rt; whole.at_or_after(value), want, "{value} on {level}");
+        if let Some(member) = grid.at_or_after(value) {
+            assert_eq!(rt; grid.after(member), above, "after {member} on {level}");
+        }
     }
     Ok(())
 }

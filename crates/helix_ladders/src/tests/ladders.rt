@@ -15,9 +15,9 @@ fn on<S: Scale>(rt: &impl Abort, scale: &S, level: u32, value: i128) -> bool {
     scale.on(level, value)
 }
 
-const ONE: i128 = 1_000_000_000_000_000;
+pub const ONE: i128 = 1_000_000_000_000_000;
 
-const GREATEST: i128 = 100_000_000_000_000_000_000_000_000_000_000_000;
+pub const GREATEST: i128 = 100_000_000_000_000_000_000_000_000_000_000_000;
 
 #[test]
 fn numbers_are_on_powers_of_ten(rt: HostRuntime) {
@@ -40,7 +40,7 @@ fn numbers_are_on_powers_of_ten(rt: HostRuntime) {
         (15, ONE + 1, Some(2 * ONE)),
         (15, -1, Some(0)),
         (15, -ONE - 1, Some(-ONE)),
-        // Behind the last value that fits 64 bits.
+        // After the last value that fits 64 bits.
         (15, 9_223_372_036_854_775_808, Some(9_224 * ONE)),
         (15, -9_223_372_036_854_775_809, Some(-9_223 * ONE)),
         (15, GREATEST - 1, Some(GREATEST)),
@@ -69,7 +69,7 @@ fn numbers_are_on_powers_of_ten(rt: HostRuntime) {
 }
 
 /// The steps of the levels, from the finest.
-const STEPS: [i128; 16] = [
+pub const STEPS: [i128; 16] = [
     1,
     10,
     100,
@@ -114,9 +114,9 @@ fn each_level_of_numbers_has_its_step(rt: HostRuntime) {
     }
 }
 
-const DAY: i128 = 86_400_000;
+pub const DAY: i128 = 86_400_000;
 
-const LAST: i128 = 315_537_897_599_999;
+pub const LAST: i128 = 315_537_897_599_999;
 
 // The days are those of Python's `datetime.date.toordinal`, less one.
 #[test]

@@ -1,0 +1,5 @@
+pub mod Window
+pub mod Sieve
+pub mod Members
+pub mod Kept
+pub mod Parts
