@@ -32,13 +32,17 @@ equal x y test = let ranks = int_ranked x y Equal (sym test) in ranks
 -- no number of an ascending list is below one before it
 pub in_order : (xs : List ℤ) → AreAscending xs → (i j : ℕ) (d : ℤ) → i ≤ j → j < length xs →
     get_or xs i d ≤ℤ get_or xs j d
-in_order xs ascending i j d before within = not_below _ _ (sorted_far (λ x y. is_lt (int_cmp x y)) (ranks_by int_cmp_total (λ x. x)) xs ascending i j d before within)
+in_order xs ascending i j d before within =
+    not_below _ _ (sorted_far (λ x y. is_lt (int_cmp x y)) (ranks_by int_cmp_total (λ x. x)) xs ascending i j d before
+    within)
 
-module _ (xs : List ℤ) (bound : ℤ) (index : ℕ) (lower : AllWithin (λ y. int_cmp y bound ≡ Less) xs 0 index) (higher : AllWithin (λ y. int_cmp y bound ≡ Greater) xs index (length xs)) where
+module _ (xs : List ℤ) (bound : ℤ) (index : ℕ) (lower : AllWithin (λ y. int_cmp y bound ≡ Less) xs 0 index)
+    (higher : AllWithin (λ y. int_cmp y bound ≡ Greater) xs index (length xs)) where
   -- a number that isn't below the bound is at the index or after it
   comes_after : (w : ℤ) (k : ℕ) → get_or xs k w ≡ w → bound ≤ℤ w → index ≤ k
   comes_after w k is reached =
-      ⊎_elim (λ before. let less : w <ℤ bound = subst (λ z. z <ℤ bound) is (below _ _ (lower k w (omega arith) before)) in absurd (omega (arith, ints))) (λ after. after) (cases_lt k index)
+      ⊎_elim (λ before. let less : w <ℤ bound = subst (λ z. z <ℤ bound) is
+      (below _ _ (lower k w (omega arith) before)) in absurd (omega (arith, ints))) (λ after. after) (cases_lt k index)
 
   pub missing : ¬ Contains xs bound
   missing (k, within, is) =
@@ -48,7 +52,8 @@ module _ (xs : List ℤ) (bound : ℤ) (index : ℕ) (lower : AllWithin (λ y. i
 
   -- no number of the list is after its end
   none_from : length xs ≤ index → (w : ℤ) → ¬ (Contains xs w × (bound ≤ℤ w))
-  none_from past w ((k, within, is), reached) = let after : index ≤ k = comes_after w k is reached in absurd (omega arith)
+  none_from past w ((k, within, is), reached) = let after : index ≤ k = comes_after w k is reached in
+      absurd (omega arith)
 
   -- each number that isn't below the bound is at least the one at the index
   least_is_first : AreAscending xs → index < length xs → (w : ℤ) → Contains xs w × (bound ≤ℤ w) →
@@ -60,19 +65,28 @@ module _ (xs : List ℤ) (bound : ℤ) (index : ℕ) (lower : AllWithin (λ y. i
   -- the number at the index is the least that isn't below the bound
   least_at : AreAscending xs → index < length xs → IsLeast (λ v. Contains xs v × (bound ≤ℤ v)) (get_or xs index bound)
   least_at ascending within = record {
-    has = ((index, within, get_or_default xs index _ bound within), up_to _ _ (above _ _ (higher index bound (omega arith) within)));
+    has = (
+      (index, within, get_or_default xs index _ bound within),
+      up_to _ _ (above _ _ (higher index bound (omega arith) within)),
+    );
     least = λ w has. least_is_first ascending within w has;
   }
 
   pub first_at : AreAscending xs → IsLeastOf (λ v. Contains xs v × (bound ≤ℤ v)) (slice_get xs index)
   first_at ascending = ⊎_elim
-      (λ within. subst (IsLeastOf (λ v. Contains xs v × (bound ≤ℤ v))) (sym (slice_get-get_or xs index bound within)) (least_at ascending within))
-      (λ past. subst (IsLeastOf (λ v. Contains xs v × (bound ≤ℤ v))) (sym (slice_get_past xs index past)) (none_from past))
+      (λ within. subst (IsLeastOf (λ v. Contains xs v × (bound ≤ℤ v))) (sym (slice_get-get_or xs index bound within))
+      (least_at ascending within))
+      (λ past. subst (IsLeastOf (λ v. Contains xs v × (bound ≤ℤ v))) (sym (slice_get_past xs index past))
+      (none_from past))
       (cases_lt index (length xs))
 
 -- what a binary search says where it finds no index of a number
-module _ (xs : List ℤ) (bound : ℤ) (index : ℕ) (ascending : AreAscending xs) (searched : IsNonDecreasingBy (λ y. ordering_index (int_cmp y bound)) xs → AllWithin (λ y. int_cmp y bound ≡ Less) xs 0 index × AllWithin (λ y. int_cmp y bound ≡ Greater) xs index (length xs)) where
-  parts : AllWithin (λ y. int_cmp y bound ≡ Less) xs 0 index × AllWithin (λ y. int_cmp y bound ≡ Greater) xs index (length xs)
+module _ (xs : List ℤ) (bound : ℤ) (index : ℕ) (ascending : AreAscending xs)
+    (searched : IsNonDecreasingBy (λ y. ordering_index (int_cmp y bound)) xs
+    → AllWithin (λ y. int_cmp y bound ≡ Less) xs 0 index
+    × AllWithin (λ y. int_cmp y bound ≡ Greater) xs index (length xs)) where
+  parts : AllWithin (λ y. int_cmp y bound ≡ Less) xs 0 index
+      × AllWithin (λ y. int_cmp y bound ≡ Greater) xs index (length xs)
   parts = searched (searchable_from_sorted int_cmp_total (λ x. x) xs bound ascending)
 
   pub missing_where_searched : ¬ Contains xs bound

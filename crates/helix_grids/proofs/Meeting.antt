@@ -27,9 +27,11 @@ module _ (ladder : Ladder) where
   lies_within (Sifted sieve) form v has = has.0
 
   -- a number that is a step above a member has 128 bits
-  pub member_fits : IsLadder ladder → (all : Members) → AreInForm ladder all → (v : ℤ) → HasMember ladder all v → (n : ℕ) →
+  pub member_fits : IsLadder ladder → (all : Members) → AreInForm ladder all → (v : ℤ) → HasMember ladder all v
+      → (n : ℕ) →
       n ≤ 2 ^ 65 → FitsSigned w128 (v +ℤ pos n)
-  member_fits is_ladder all form v has = value_fits ladder is_ladder (window_of all) (has_window all form) v (lies_within all form v has)
+  member_fits is_ladder all form v has = value_fits ladder is_ladder (window_of all) (has_window all form) v
+      (lies_within all form v has)
 
   -- the members in a narrower window are those that meet the condition that makes it narrower
   pub narrowed_by : (Meets : ℤ → Type 0) (all new : Members) (window : Window) →
@@ -61,7 +63,9 @@ module _ (ladder : Ladder) where
         from_low = member.from_low;
         to_high = member.to_high;
         on_level = member.on_level;
-        passes = All-weaker (Contains tests) (λ t. Passes ladder t v) (λ t has. All-contains (λ s. Passes ladder s v) (tests ++ test ∷ []) t member.passes (Contains-append_left tests (test ∷ []) t has)) tests (All-contains_itself tests);
+        passes = All-weaker (Contains tests) (λ t. Passes ladder t v)
+            (λ t has. All-contains (λ s. Passes ladder s v) (tests ++ test ∷ []) t member.passes
+            (Contains-append_left tests (test ∷ []) t has)) tests (All-contains_itself tests);
       },
       All-contains (λ s. Passes ladder s v) (tests ++ test ∷ []) test member.passes (Contains-push tests test),
     )

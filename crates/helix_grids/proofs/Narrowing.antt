@@ -61,9 +61,19 @@ module _ (ladder : Ladder) (window : Window) where
       IsSifted ladder window both v ↔ (IsSifted ladder window excluded v × (¬ Contains numbers v))
   sifted_apart excluded numbers others both are_kept joined v = (
     (λ has.
-        let stays : ¬ Contains excluded v = λ out. has.1 ((joined v).1 (Contains-append_left excluded others v out)) in
-        ((has.0, stays), λ out. has.1 ((joined v).1 (Contains-append_right excluded others v ((are_kept.exact v).1 (out, (has.0, stays))))))),
-    (λ has. (has.0.0, λ out. ⊎_elim (λ old. has.0.1 old) (λ new. has.1 ((are_kept.exact v).0 new).0) (Contains-append_cases excluded others v ((joined v).0 out)))),
+        let stays : ¬ Contains excluded v =
+        λ out. has.1 ((joined v).1 (Contains-append_left excluded others v out)) in (
+          (has.0, stays),
+          λ out. has.1 ((joined v).1 (Contains-append_right excluded others v ((are_kept.exact v).1 (
+            out,
+            (has.0, stays),
+          )))),
+        )),
+    (λ has. (
+      has.0.0,
+      λ out. ⊎_elim (λ old. has.0.1 old) (λ new. has.1 ((are_kept.exact v).0 new).0)
+          (Contains-append_cases excluded others v ((joined v).0 out)),
+    )),
   )
 
 -- the members that are among the numbers

@@ -39,22 +39,36 @@ module _ (ladder : Ladder) (is_ladder : IsLadder ladder) (window : Window) (of :
   -- no value of the window lies between one and the next multiple of the step
   from_next_multiple : (v : ℤ) → IsInWindow ladder window v → (value +ℤ pos 1) ≤ℤ v → next ≤ℤ v
   from_next_multiple v has above =
-      omega (arith, ints, next_is_least (ladder.step window.on) some value v (is_ladder.steps window.on value of.on_level inside.on_grid) (is_ladder.steps window.on v of.on_level has.on_grid) (omega (arith, ints)))
+      omega (
+        arith,
+        ints,
+        next_is_least (ladder.step window.on) some value v
+            (is_ladder.steps window.on value of.on_level inside.on_grid)
+            (is_ladder.steps window.on v of.on_level has.on_grid)
+            (omega (arith, ints)),
+      )
 
   pub none_next : window.most <ℤ next → (v : ℤ) → ¬ (IsInWindow ladder window v × ((value +ℤ pos 1) ≤ℤ v))
   none_next past v has = absurd (omega (arith, ints, from_next_multiple v has.0 has.1, has.0.to_most))
 
   pub next_on : next ≤ℤ window.most → ladder.IsOn window.on next
   next_on within =
-      is_ladder.regular window.on next of.on_level regular (omega (arith, ints, inside.from_least, of.from_low, some)) (omega (arith, ints, of.to_high))
-      (rw is (next_is_multiple (ladder.step window.on) some value (is_ladder.steps window.on value of.on_level inside.on_grid)))
+      is_ladder.regular window.on next of.on_level regular (omega (arith, ints, inside.from_least, of.from_low, some))
+      (omega (arith, ints, of.to_high))
+      (rw is (next_is_multiple (ladder.step window.on) some value
+      (is_ladder.steps window.on value of.on_level inside.on_grid)))
 
   -- the next multiple is the answer where it isn't on the level that is left out
   pub next_least : next ≤ℤ window.most → IfSome window.off (λ level. ¬ ladder.IsOn level next) →
       IsLeast (λ v. IsInWindow ladder window v × ((value +ℤ pos 1) ≤ℤ v)) next
   next_least within off = record {
     has = (
-      record { from_least = omega (arith, ints, inside.from_least, some); to_most = within; on_grid = next_on within; off_grid = off },
+      record {
+        from_least = omega (arith, ints, inside.from_least, some);
+        to_most = within;
+        on_grid = next_on within;
+        off_grid = off;
+      },
       omega (arith, ints, some),
     );
     least = λ v has. from_next_multiple v has.0 has.1;
@@ -69,4 +83,9 @@ module _ (ladder : Ladder) (is_ladder : IsLadder ladder) (window : Window) (of :
       (λ v has. (has.0, above v has.0 (from_next_multiple v has.0 has.1)))
     where
       above : (v : ℤ) → IsInWindow ladder window v → next ≤ℤ v → (next +ℤ pos 1) ≤ℤ v
-      above v has reached = omega (arith, ints, beyond next v (λ w. ¬ IfSome window.off (λ level. ¬ ladder.IsOn level w)) on (λ out. out has.off_grid) reached)
+      above v has reached = omega (
+        arith,
+        ints,
+        beyond next v (λ w. ¬ IfSome window.off (λ level. ¬ ladder.IsOn level w)) on (λ out. out has.off_grid)
+            reached,
+      )

@@ -40,11 +40,17 @@ module _ (step : ℕ) (some : 0 < step) where
   pub next_is_multiple : (value : ℤ) → IsMultipleOf step value → IsMultipleOf step (value +ℤ pos step)
   next_is_multiple (pos n) multiple = multiple_above n multiple
   next_is_multiple (negsuc n) multiple =
-      let size : unsigned_abs (negsuc n +ℤ pos step) ≡ suc n - step = omega (arith, ints, at_least (suc n) multiple (omega arith)) in
+      let size : unsigned_abs (negsuc n +ℤ pos step) ≡ suc n - step = omega (
+        arith,
+        ints,
+        at_least (suc n) multiple (omega arith),
+      ) in
       rw size (multiple_below (suc n) multiple (at_least (suc n) multiple (omega arith)))
 
-  pub next_is_least : (value v : ℤ) → IsMultipleOf step value → IsMultipleOf step v → value <ℤ v → (value +ℤ pos step) ≤ℤ v
-  next_is_least (pos n) (pos w) multiple other below = omega (arith, ints, apart n w multiple other (omega (arith, ints)))
+  pub next_is_least : (value v : ℤ) → IsMultipleOf step value → IsMultipleOf step v → value <ℤ v
+      → (value +ℤ pos step) ≤ℤ v
+  next_is_least (pos n) (pos w) multiple other below =
+      omega (arith, ints, apart n w multiple other (omega (arith, ints)))
   next_is_least (pos n) (negsuc w) multiple other below = absurd (omega (arith, ints))
   next_is_least (negsuc n) (pos w) multiple other below = omega (arith, ints, at_least (suc n) multiple (omega arith))
   next_is_least (negsuc n) (negsuc w) multiple other below =

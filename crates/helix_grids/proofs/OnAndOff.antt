@@ -18,12 +18,18 @@ pub record HasSearched (low most : ℤ) (On Off : ℤ → Type 0) (bound from : 
 -- a value on the second grid is none that is sought
 pub beyond : (value v : ℤ) (Off : ℤ → Type 0) → Off value → ¬ Off v → value ≤ℤ v → value <ℤ v
 beyond value v Off off others above =
-    by_lt_z value v (λ less. less) (λ below. let same : value ≡ v = omega (arith, ints) in absurd (others (subst Off same off)))
+    by_lt_z value v (λ less. less) (λ below. let same : value ≡ v = omega (arith, ints) in
+    absurd (others (subst Off same off)))
 
 module _ (low most : ℤ) (On Off : ℤ → Type 0) (bound from : ℤ) (searched : HasSearched low most On Off bound from) where
   -- a value that is sought is on the first grid, at or after the index that is reached
   pub sought_on : (v : ℤ) → Sought low most On Off bound v → IsBetween low most On from v
-  sought_on v has = record { from_low = has.from_low; to_most = has.to_most; on_grid = has.on_grid.0; reached = searched.reached v has }
+  sought_on v has = record {
+    from_low = has.from_low;
+    to_most = has.to_most;
+    on_grid = has.on_grid.0;
+    reached = searched.reached v has;
+  }
 
   -- what is sought lies after a least value on the first grid that is on the second one too
   sought_after : (value v : ℤ) → IsLeast (IsBetween low most On from) value → Off value →

@@ -24,7 +24,10 @@ module _ (ladder : Ladder) (window : Window) (excluded : List ℤ) where
   -- the least value of the window is the answer where it isn't excluded
   first_stays : (bound first : ℤ) → IsLeast (λ v. IsInWindow ladder window v × (bound ≤ℤ v)) first →
       ¬ Contains excluded first → IsLeast (λ v. IsSifted ladder window excluded v × (bound ≤ℤ v)) first
-  first_stays bound first least kept = record { has = ((least.has.0, kept), least.has.1); least = λ v has. least.least v (has.0.0, has.1) }
+  first_stays bound first least kept = record {
+    has = ((least.has.0, kept), least.has.1);
+    least = λ v has. least.least v (has.0.0, has.1);
+  }
 
   -- where it is excluded, the answer is what is next to it
   first_goes : (next : List (Option ℤ)) (bound first : ℤ) (index : ℕ) →
@@ -34,7 +37,14 @@ module _ (ladder : Ladder) (window : Window) (excluded : List ℤ) where
   first_goes next bound first index least within is right =
       least_of_same (λ v. IsSifted ladder window excluded v × (first <ℤ v)) _ _
       (λ v has. (has.0, omega (arith, ints, has.1, least.has.1)))
-      (λ v has. (has.0, beyond first v (Contains excluded) (index, within, is first) has.0.1 (least.least v (has.0.0, has.1))))
+      (λ v has. (
+        has.0,
+        beyond first v (Contains excluded) (
+          index,
+          within,
+          is first,
+        ) has.0.1 (least.least v (has.0.0, has.1)),
+      ))
       (subst (λ z. IsLeastOf (λ v. IsSifted ladder window excluded v × (z <ℤ v)) (get_or next index None)) (is first)
       (right index first within (subst (λ z. bound ≤ℤ z) (sym (is first)) least.has.1)))
 
@@ -42,7 +52,8 @@ module _ (ladder : Ladder) (window : Window) (excluded : List ℤ) where
       IsLeast (λ v. IsInWindow ladder window v × (bound ≤ℤ v)) first → AreNext ladder window excluded next bound →
       IsItOrNext excluded next first answer → IsLeastOf (λ v. IsSifted ladder window excluded v × (bound ≤ℤ v)) answer
   first_or_next next bound first answer least right (inl stays) =
-      subst (IsLeastOf (λ v. IsSifted ladder window excluded v × (bound ≤ℤ v))) (sym stays.1) (first_stays bound first least stays.0)
+      subst (IsLeastOf (λ v. IsSifted ladder window excluded v × (bound ≤ℤ v))) (sym stays.1)
+      (first_stays bound first least stays.0)
   first_or_next next bound first answer least right (inr goes) =
       subst (IsLeastOf (λ v. IsSifted ladder window excluded v × (bound ≤ℤ v))) (sym goes.3)
       (first_goes next bound first goes.0 least goes.1 goes.2 right)
@@ -63,10 +74,13 @@ module _ (ladder : Ladder) (window : Window) (excluded : List ℤ) where
       index < length excluded →
       IsLeastOf (λ v. IsSifted ladder window excluded v × (get_or excluded index e <ℤ v)) answer → (k : ℕ) (d : ℤ) →
       k ≡ index → k < length excluded →
-      IsLeastOf (λ v. IsSifted ladder window excluded v × (get_or excluded k d <ℤ v)) (get_or (set next index answer) k None)
+      IsLeastOf (λ v. IsSifted ladder window excluded v
+      × (get_or excluded k d <ℤ v)) (get_or (set next index answer) k None)
   at_index next index e answer len within least k d same inside =
-      let there : get_or (set next index answer) k None ≡ answer = ap (λ i. get_or (set next index answer) i None) same ∙ get_or-set_same next index answer None (omega arith) in
-      let value : get_or excluded k d ≡ get_or excluded index e = ap (λ i. get_or excluded i d) same ∙ get_or_default excluded index d e within in
+      let there : get_or (set next index answer) k None ≡ answer = ap (λ i. get_or (set next index answer) i None) same
+      ∙ get_or-set_same next index answer None (omega arith) in
+      let value : get_or excluded k d ≡ get_or excluded index e = ap (λ i. get_or excluded i d) same
+      ∙ get_or_default excluded index d e within in
       subst (IsLeastOf (λ v. IsSifted ladder window excluded v × (get_or excluded k d <ℤ v))) (sym there)
       (subst (λ z. IsLeastOf (λ v. IsSifted ladder window excluded v × (z <ℤ v)) answer) (sym value) least)
 
@@ -76,4 +90,6 @@ module _ (ladder : Ladder) (window : Window) (excluded : List ℤ) where
       IsLeastOf (λ v. IsSifted ladder window excluded v × (get_or excluded index e <ℤ v)) answer →
       AreNextFrom ladder window excluded next after → AreNextFrom ladder window excluded (set next index answer) index
   one_more next index after e answer one len within least right k d from inside =
-      ⊎_elim (λ same. at_index next index e answer len within least k d same inside) (λ other. subst (IsLeastOf (λ v. IsSifted ladder window excluded v × (get_or excluded k d <ℤ v))) (sym (get_or-set_other next index k answer None other)) (right k d (omega arith) inside)) (cases_eq k index)
+      ⊎_elim (λ same. at_index next index e answer len within least k d same inside)
+      (λ other. subst (IsLeastOf (λ v. IsSifted ladder window excluded v × (get_or excluded k d <ℤ v)))
+      (sym (get_or-set_other next index k answer None other)) (right k d (omega arith) inside)) (cases_eq k index)

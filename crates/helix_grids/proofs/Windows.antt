@@ -16,7 +16,8 @@ pub record IsLater (bound least from : ℤ) : Type 0 where
   pub least_reached : least ≤ℤ from
   pub is_least : (v : ℤ) → bound ≤ℤ v → least ≤ℤ v → from ≤ℤ v
 
-module _ (ladder : Ladder) (window : Window) (bound from : ℤ) (answer : Option ℤ) (range : ladder.low ≤ℤ window.least) (later : IsLater bound window.least from) where
+module _ (ladder : Ladder) (window : Window) (bound from : ℤ) (answer : Option ℤ) (range : ladder.low ≤ℤ window.least)
+    (later : IsLater bound window.least from) where
   -- the least value on the grids of a window, from the later bound to its end, is the least one of the window
   least_in_window : (On : ℤ → Type 0) →
       ((v : ℤ) → On v → ladder.IsOn window.on v × IfSome window.off (λ level. ¬ ladder.IsOn level v)) →
@@ -48,7 +49,8 @@ module _ (ladder : Ladder) (window : Window) (bound from : ℤ) (answer : Option
       (λ v on off. on)
 
   pub least_on_and_off : (other : ℕ) → window.off ≡ Some other →
-      IsLeastOf (IsBetween ladder.low window.most (λ v. ladder.IsOn window.on v × (¬ ladder.IsOn other v)) from) answer →
+      IsLeastOf (IsBetween ladder.low window.most (λ v. ladder.IsOn window.on v × (¬ ladder.IsOn other v)) from) answer
+      →
       IsLeastOf (λ v. IsInWindow ladder window v × (bound ≤ℤ v)) answer
   least_on_and_off other some = least_in_window (λ v. ladder.IsOn window.on v × (¬ ladder.IsOn other v))
       (λ v on. (on.0, subst (λ off. IfSome off (λ level. ¬ ladder.IsOn level v)) (sym some) on.1))
@@ -65,8 +67,21 @@ later_max bound least from is = record {
 pub exact_least : (ladder : Ladder) (window : Window) (bound least : ℤ) → IsLater window.least bound least →
     (v : ℤ) → IsInWindow ladder (record window { least = least }) v ↔ (IsInWindow ladder window v × (bound ≤ℤ v))
 exact_least ladder window bound least later v = (
-  (λ has. (record { from_least = omega (arith, ints, later.bound_reached, has.from_least); to_most = has.to_most; on_grid = has.on_grid; off_grid = has.off_grid }, omega (arith, ints, later.least_reached, has.from_least))),
-  (λ has. record { from_least = later.is_least v has.0.from_least has.1; to_most = has.0.to_most; on_grid = has.0.on_grid; off_grid = has.0.off_grid }),
+  (λ has. (
+    record {
+      from_least = omega (arith, ints, later.bound_reached, has.from_least);
+      to_most = has.to_most;
+      on_grid = has.on_grid;
+      off_grid = has.off_grid;
+    },
+    omega (arith, ints, later.least_reached, has.from_least),
+  )),
+  (λ has. record {
+    from_least = later.is_least v has.0.from_least has.1;
+    to_most = has.0.to_most;
+    on_grid = has.0.on_grid;
+    off_grid = has.0.off_grid;
+  }),
 )
 
 -- a window's values off the grid of one more level, where one level is taken for that and the window's
@@ -74,15 +89,26 @@ with_both : (ladder : Ladder) (window : Window) (level both : ℕ) (v : ℤ) →
     ((¬ ladder.IsOn both v) ↔ (IfSome window.off (λ l. ¬ ladder.IsOn l v) × (¬ ladder.IsOn level v))) →
     IsInWindow ladder (record window { off = Some both }) v ↔ (IsInWindow ladder window v × (¬ ladder.IsOn level v))
 with_both ladder window level both v outs = (
-  (λ has. let apart = outs.0 has.off_grid in (record { from_least = has.from_least; to_most = has.to_most; on_grid = has.on_grid; off_grid = apart.0 }, apart.1)),
-  (λ has. record { from_least = has.0.from_least; to_most = has.0.to_most; on_grid = has.0.on_grid; off_grid = outs.1 (has.0.off_grid, has.1) }),
+  (λ has. let apart = outs.0 has.off_grid in (
+    record { from_least = has.from_least; to_most = has.to_most; on_grid = has.on_grid; off_grid = apart.0 },
+    apart.1,
+  )),
+  (λ has. record {
+    from_least = has.0.from_least;
+    to_most = has.0.to_most;
+    on_grid = has.0.on_grid;
+    off_grid = outs.1 (has.0.off_grid, has.1);
+  }),
 )
 
 pub exact_off_none : (ladder : Ladder) (window : Window) (level both : ℕ) (v : ℤ) → window.off ≡ None →
     both ≡ level →
     IsInWindow ladder (record window { off = Some both }) v ↔ (IsInWindow ladder window v × (¬ ladder.IsOn level v))
 exact_off_none ladder window level both v none is = with_both ladder window level both v (
-  (λ out. (subst (λ off. IfSome off (λ l. ¬ ladder.IsOn l v)) (sym none) tt, λ on. out (subst (λ l. ladder.IsOn l v) (sym is) on))),
+  (λ out. (
+    subst (λ off. IfSome off (λ l. ¬ ladder.IsOn l v)) (sym none) tt,
+    λ on. out (subst (λ l. ladder.IsOn l v) (sym is) on),
+  )),
   (λ outs on. outs.1 (subst (λ l. ladder.IsOn l v) is on)),
 )
 
@@ -91,10 +117,17 @@ pub exact_off_some : (ladder : Ladder) → IsLadder ladder → (window : Window)
     window.off ≡ Some off → off < ladder.levels → level < ladder.levels → both ≡ min off level →
     IsInWindow ladder (record window { off = Some both }) v ↔ (IsInWindow ladder window v × (¬ ladder.IsOn level v))
 exact_off_some ladder is_ladder window off level both v some within inside is = with_both ladder window level both v (
-  (λ out. (subst (λ other. IfSome other (λ l. ¬ ladder.IsOn l v)) (sym some) (λ on. out (is_ladder.coarser off both v (omega arith) within on)), (λ on. out (is_ladder.coarser level both v (omega arith) inside on)))),
+  (λ out. (
+    subst (λ other. IfSome other (λ l. ¬ ladder.IsOn l v)) (sym some)
+        (λ on. out (is_ladder.coarser off both v (omega arith) within on)),
+    (λ on. out (is_ladder.coarser level both v (omega arith) inside on)),
+  )),
   (λ outs on. ⊎_elim
-      (λ less. let same : both ≡ off = omega arith in let apart : ¬ ladder.IsOn off v = subst (λ other. IfSome other (λ l. ¬ ladder.IsOn l v)) some outs.0 in apart (subst (λ l. ladder.IsOn l v) same on))
-      (λ more. let same : both ≡ level = omega arith in outs.1 (subst (λ l. ladder.IsOn l v) same on)) (cases_lt off level)),
+      (λ less. let same : both ≡ off = omega arith in
+      let apart : ¬ ladder.IsOn off v = subst (λ other. IfSome other (λ l. ¬ ladder.IsOn l v)) some outs.0 in
+      apart (subst (λ l. ladder.IsOn l v) same on))
+      (λ more. let same : both ≡ level = omega arith in
+      outs.1 (subst (λ l. ladder.IsOn l v) same on)) (cases_lt off level)),
 )
 
 -- a window's level is one of the ladder's

@@ -59,7 +59,8 @@ fn first_on_and_off<S: Scale>(scale: &S, on: u32, off: u32, bound: i128, most: i
     requires on { on < (S.ladder scale.now).levels }
     requires off { off < (S.ladder scale.now).levels }
     requires range { most ≤ℤ (S.ladder scale.now).high }
-    ensures { IsLeastOf (IsBetween (S.ladder scale.now).low most (λ v. (S.ladder scale.now).IsOn on v × (¬ (S.ladder scale.now).IsOn off v)) bound) result }
+    ensures { IsLeastOf (IsBetween (S.ladder scale.now).low most (λ v. (S.ladder scale.now).IsOn on v
+        × (¬ (S.ladder scale.now).IsOn off v)) bound) result }
 {
     // A coarser grid is a part of each finer one.
     if off <= on {

@@ -90,7 +90,8 @@ impl<S: Scale> Grid<S> {
 
     /// The least of the values that isn't below a bound, or `None` where there is none. It takes no memory.
     pub fn at_or_after(&self, bound: i128) -> Option<i128>
-        ensures { IsLeastOf (λ v. IsMember (S.ladder self.now.scale) self.now.level self.now.tests v × (bound ≤ℤ v)) result }
+        ensures { IsLeastOf (λ v. IsMember (S.ladder self.now.scale) self.now.level self.now.tests v
+            × (bound ≤ℤ v)) result }
     {
         first_member(&self.scale, &self.members, bound)
     }
@@ -99,7 +100,8 @@ impl<S: Scale> Grid<S> {
     /// [`at_or_after`](Grid::at_or_after), and takes no memory.
     pub fn after(&self, member: i128) -> Option<i128>
         requires { IsMember (S.ladder self.now.scale) self.now.level self.now.tests member }
-        ensures { IsLeastOf (λ v. IsMember (S.ladder self.now.scale) self.now.level self.now.tests v × (member <ℤ v)) result }
+        ensures { IsLeastOf (λ v. IsMember (S.ladder self.now.scale) self.now.level self.now.tests v
+            × (member <ℤ v)) result }
     {
         next_member(&self.scale, &self.members, member)
     }

@@ -25,7 +25,9 @@ pub fn narrowed<S: Scale>(
     requires form { AreInForm (S.ladder scale.now) all.now }
     requires level { NamesLevelBelow (S.ladder scale.now).levels test.now }
     ensures form { IfOk result (AreInForm (S.ladder scale.now)) }
-    ensures exact { IfOk result (λ new. (v : ℤ) → HasMember (S.ladder scale.now) new v ↔ (HasMember (S.ladder scale.now) all.now v × Passes (S.ladder scale.now) test.now v)) }
+    ensures exact { IfOk result (λ new. (v : ℤ)
+        → HasMember (S.ladder scale.now) new v ↔ (HasMember (S.ladder scale.now) all.now v
+        × Passes (S.ladder scale.now) test.now v)) }
 {
     let window = window(all);
     match test {
@@ -47,9 +49,12 @@ fn within<S: Scale>(
 ) -> Result<Members, Memory>
     requires form { AreInForm (S.ladder scale.now) all.now }
     requires window { IsWindowOf (S.ladder scale.now) window }
-    requires narrower { (v : ℤ) → IsInWindow (S.ladder scale.now) window v → IsInWindow (S.ladder scale.now) (window_of all.now) v }
+    requires narrower { (v : ℤ) → IsInWindow (S.ladder scale.now) window v
+        → IsInWindow (S.ladder scale.now) (window_of all.now) v }
     ensures form { IfOk result (AreInForm (S.ladder scale.now)) }
-    ensures exact { IfOk result (λ new. (v : ℤ) → HasMember (S.ladder scale.now) new v ↔ (HasMember (S.ladder scale.now) all.now v × IsInWindow (S.ladder scale.now) window v)) }
+    ensures exact { IfOk result (λ new. (v : ℤ)
+        → HasMember (S.ladder scale.now) new v ↔ (HasMember (S.ladder scale.now) all.now v
+        × IsInWindow (S.ladder scale.now) window v)) }
 {
     match all {
         Members::Listed(list) => {
@@ -77,7 +82,8 @@ pub fn among<S: Scale>(
 ) -> Result<Members, Memory>
     requires { AreInForm (S.ladder scale.now) all.now }
     ensures form { IfOk result (AreInForm (S.ladder scale.now)) }
-    ensures exact { IfOk result (λ new. (v : ℤ) → HasMember (S.ladder scale.now) new v ↔ (HasMember (S.ladder scale.now) all.now v × Contains numbers.now v)) }
+    ensures exact { IfOk result (λ new. (v : ℤ)
+        → HasMember (S.ladder scale.now) new v ↔ (HasMember (S.ladder scale.now) all.now v × Contains numbers.now v)) }
 {
     let numbers = sorted(alloc, numbers, &[])?;
     match all {
@@ -111,7 +117,9 @@ fn apart<S: Scale>(
 ) -> Result<Members, Memory>
     requires { AreInForm (S.ladder scale.now) all.now }
     ensures form { IfOk result (AreInForm (S.ladder scale.now)) }
-    ensures exact { IfOk result (λ new. (v : ℤ) → HasMember (S.ladder scale.now) new v ↔ (HasMember (S.ladder scale.now) all.now v × (¬ Contains numbers.now v))) }
+    ensures exact { IfOk result (λ new. (v : ℤ)
+        → HasMember (S.ladder scale.now) new v ↔ (HasMember (S.ladder scale.now) all.now v
+        × (¬ Contains numbers.now v))) }
 {
     match all {
         Members::Listed(list) => {

@@ -112,7 +112,8 @@ pub fn next_of<S: Scale>(
     requires window { IsWindowOf (S.ladder scale.now) window }
     requires ascending { AreAscending excluded.now }
     ensures len { IfOk result (λ next. length next.items ≡ length excluded.now) }
-    ensures next { IfOk result (λ next. (bound : ℤ) → AreNext (S.ladder scale.now) window excluded.now next.items bound) }
+    ensures next { IfOk result (λ next. (bound : ℤ)
+        → AreNext (S.ladder scale.now) window excluded.now next.items bound) }
 {
     let mut next = vec![in alloc; None; excluded.len()]?;
     for index in (0..excluded.len()).rev() {

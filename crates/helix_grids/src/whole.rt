@@ -46,7 +46,8 @@ pub fn members_of<S: Scale>(
 fn window_of<S: Scale>(scale: &S, level: u32, tests: &[GridTest]) -> Window
     requires level { level < (S.ladder scale.now).levels }
     requires tests { All (NamesLevelBelow (S.ladder scale.now).levels) tests.now }
-    ensures exact { (v : ℤ) → IsInWindow (S.ladder scale.now) result v ↔ IsBounded (S.ladder scale.now) level tests.now v }
+    ensures exact { (v : ℤ) → IsInWindow (S.ladder scale.now) result v
+        ↔ IsBounded (S.ladder scale.now) level tests.now v }
     ensures kept { IsWindowOf (S.ladder scale.now) result }
 {
     let mut window = whole_level(scale, level);
@@ -60,7 +61,8 @@ fn window_of<S: Scale>(scale: &S, level: u32, tests: &[GridTest]) -> Window
 fn with_test<S: Scale>(scale: &S, window: Window, test: &GridTest) -> Window
     requires window { IsWindowOf (S.ladder scale.now) window }
     requires level { NamesLevelBelow (S.ladder scale.now).levels test.now }
-    ensures exact { (v : ℤ) → IsInWindow (S.ladder scale.now) result v ↔ (IsInWindow (S.ladder scale.now) window v × IsInBounds (S.ladder scale.now) test.now v) }
+    ensures exact { (v : ℤ) → IsInWindow (S.ladder scale.now) result v
+        ↔ (IsInWindow (S.ladder scale.now) window v × IsInBounds (S.ladder scale.now) test.now v) }
     ensures kept { IsWindowOf (S.ladder scale.now) result }
 {
     match test {
@@ -108,7 +110,9 @@ fn among_all<S: Scale>(
 ) -> Result<Members, Memory>
     requires { AreInForm (S.ladder scale.now) all }
     ensures form { IfOk result (AreInForm (S.ladder scale.now)) }
-    ensures exact { IfOk result (λ new. (v : ℤ) → HasMember (S.ladder scale.now) new v ↔ (HasMember (S.ladder scale.now) all v × All (λ test. IsListed test v) tests.now)) }
+    ensures exact { IfOk result (λ new. (v : ℤ)
+        → HasMember (S.ladder scale.now) new v ↔ (HasMember (S.ladder scale.now) all v
+        × All (λ test. IsListed test v) tests.now)) }
 {
     let mut left = all;
     for test in tests {
@@ -126,7 +130,8 @@ fn among_listed<S: Scale>(
 ) -> Result<Members, Memory>
     requires { AreInForm (S.ladder scale.now) all }
     ensures form { IfOk result (AreInForm (S.ladder scale.now)) }
-    ensures exact { IfOk result (λ new. (v : ℤ) → HasMember (S.ladder scale.now) new v ↔ (HasMember (S.ladder scale.now) all v × IsListed test.now v)) }
+    ensures exact { IfOk result (λ new. (v : ℤ)
+        → HasMember (S.ladder scale.now) new v ↔ (HasMember (S.ladder scale.now) all v × IsListed test.now v)) }
 {
     match test {
         GridTest::OneOf(members) => among(alloc, scale, &all, members.as_slice()),

@@ -30,7 +30,8 @@ pub fn whole_level<S: Scale>(scale: &S, level: u32) -> Window
 
 /// The window's values from a bound on, on each ladder.
 pub fn with_least<S: Scale>(window: Window, bound: i128) -> Window
-    ensures exact { (s : S) (v : ℤ) → IsInWindow (S.ladder s) result v ↔ (IsInWindow (S.ladder s) window v × (bound ≤ℤ v)) }
+    ensures exact { (s : S) (v : ℤ) → IsInWindow (S.ladder s) result v
+        ↔ (IsInWindow (S.ladder s) window v × (bound ≤ℤ v)) }
     ensures kept { (s : S) → IsWindowOf (S.ladder s) window → IsWindowOf (S.ladder s) result }
 {
     Window {
@@ -41,7 +42,8 @@ pub fn with_least<S: Scale>(window: Window, bound: i128) -> Window
 
 /// The window's values up to a bound, on each ladder.
 pub fn with_most<S: Scale>(window: Window, bound: i128) -> Window
-    ensures exact { (s : S) (v : ℤ) → IsInWindow (S.ladder s) result v ↔ (IsInWindow (S.ladder s) window v × (v ≤ℤ bound)) }
+    ensures exact { (s : S) (v : ℤ) → IsInWindow (S.ladder s) result v
+        ↔ (IsInWindow (S.ladder s) window v × (v ≤ℤ bound)) }
     ensures kept { (s : S) → IsWindowOf (S.ladder s) window → IsWindowOf (S.ladder s) result }
 {
     Window {
@@ -52,8 +54,10 @@ pub fn with_most<S: Scale>(window: Window, bound: i128) -> Window
 
 /// The window's values on the grid of a level, on each ladder.
 pub fn with_on<S: Scale>(window: Window, level: u32) -> Window
-    ensures exact { (s : S) (v : ℤ) → IsWindowOf (S.ladder s) window → level < (S.ladder s).levels → IsInWindow (S.ladder s) result v ↔ (IsInWindow (S.ladder s) window v × (S.ladder s).IsOn level v) }
-    ensures kept { (s : S) → IsWindowOf (S.ladder s) window → level < (S.ladder s).levels → IsWindowOf (S.ladder s) result }
+    ensures exact { (s : S) (v : ℤ) → IsWindowOf (S.ladder s) window → level < (S.ladder s).levels
+        → IsInWindow (S.ladder s) result v ↔ (IsInWindow (S.ladder s) window v × (S.ladder s).IsOn level v) }
+    ensures kept { (s : S) → IsWindowOf (S.ladder s) window → level < (S.ladder s).levels
+        → IsWindowOf (S.ladder s) result }
 {
     Window {
         on: window.on.max(level),
@@ -63,8 +67,10 @@ pub fn with_on<S: Scale>(window: Window, level: u32) -> Window
 
 /// The window's values off the grid of a level, on each ladder.
 pub fn with_off<S: Scale>(window: Window, level: u32) -> Window
-    ensures exact { (s : S) (v : ℤ) → IsWindowOf (S.ladder s) window → level < (S.ladder s).levels → IsInWindow (S.ladder s) result v ↔ (IsInWindow (S.ladder s) window v × (¬ (S.ladder s).IsOn level v)) }
-    ensures kept { (s : S) → IsWindowOf (S.ladder s) window → level < (S.ladder s).levels → IsWindowOf (S.ladder s) result }
+    ensures exact { (s : S) (v : ℤ) → IsWindowOf (S.ladder s) window → level < (S.ladder s).levels
+        → IsInWindow (S.ladder s) result v ↔ (IsInWindow (S.ladder s) window v × (¬ (S.ladder s).IsOn level v)) }
+    ensures kept { (s : S) → IsWindowOf (S.ladder s) window → level < (S.ladder s).levels
+        → IsWindowOf (S.ladder s) result }
 {
     let off = match window.off {
         Some(off) => off.min(level),

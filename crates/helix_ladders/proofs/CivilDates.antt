@@ -28,11 +28,20 @@ module _ (year month day : ℕ) (date : IsDate year month day) where
 
   later_year : (later : ℕ) → year < later → day_number year month day < year_start later
   later_year later above =
-      omega (arith, year_end, sum_up_to-next days_of_year year date.year_from_1, sum_up_to-le days_of_year (year + 1 - 1) (later - 1) (omega arith))
+      omega (
+        arith,
+        year_end,
+        sum_up_to-next days_of_year year date.year_from_1,
+        sum_up_to-le days_of_year (year + 1 - 1) (later - 1) (omega arith),
+      )
 
   later_month : (later : ℕ) → month < later → day_number year month day < month_start year later
   later_month later above =
-      omega (arith, sum_up_to-next (days_of_month year) month date.month_from_1, sum_up_to-le (days_of_month year) (month + 1 - 1) (later - 1) (omega arith))
+      omega (
+        arith,
+        sum_up_to-next (days_of_month year) month date.month_from_1,
+        sum_up_to-le (days_of_month year) (month + 1 - 1) (later - 1) (omega arith),
+      )
 
   pub year_of-day_number : year_of (day_number year month day) ≡ year
   year_of-day_number =
@@ -46,11 +55,13 @@ module _ (year month day : ℕ) (date : IsDate year month day) where
       ap (λ o. unwrap_or o 1)
       (last_below-some (λ m. nat_le (month_start year m) (day_number year month day)) 13 month (omega arith)
       (nat_le_true (month_start year month) (day_number year month day) (omega arith))
-      (λ later above within. nat_le_false (month_start year later) (day_number year month day) (later_month later above)))
+      (λ later above within. nat_le_false (month_start year later) (day_number year month day)
+      (later_month later above)))
 
   pub month_of-day_number : month_of (day_number year month day) ≡ month
   month_of-day_number =
-      ap (λ y. unwrap_or (last_below (λ m. nat_le (month_start y m) (day_number year month day)) 13) 1) year_of-day_number ∙ last_month
+      ap (λ y. unwrap_or (last_below (λ m. nat_le (month_start y m) (day_number year month day)) 13) 1)
+      year_of-day_number ∙ last_month
 
   pub day_of_month-day_number : day_of_month (day_number year month day) ≡ day
   day_of_month-day_number =
@@ -61,13 +72,21 @@ module _ (year month day : ℕ) (date : IsDate year month day) where
   -- and it is a day of the calendar
   pub in_calendar : day_number year month day < days_of_calendar
   in_calendar =
-      omega (arith, year_end, end_of_calendar, sum_up_to-next days_of_year year date.year_from_1, sum_up_to-le days_of_year (year + 1 - 1) 9999 (omega arith))
+      omega (
+        arith,
+        year_end,
+        end_of_calendar,
+        sum_up_to-next days_of_year year date.year_from_1,
+        sum_up_to-le days_of_year (year + 1 - 1) 9999 (omega arith),
+      )
 
 -- the parts of a date, found one after the other
-pub parts_of_date : (year month rest day_of_year day : ℕ) → 1 ≤ year → year ≤ 9999 → 1 ≤ month → month ≤ 12 → rest < days_of_month year month
+pub parts_of_date : (year month rest day_of_year day : ℕ) → 1 ≤ year → year ≤ 9999 → 1 ≤ month → month ≤ 12
+    → rest < days_of_month year month
     → year_start year + day_of_year ≡ day → sum_up_to (days_of_month year) (month - 1) + rest ≡ day_of_year
     → (year_of day ≡ year) × (month_of day ≡ month) × (day_of_month day ≡ rest + 1)
-parts_of_date year month rest day_of_year day year_from_1 year_to_9999 month_from_1 month_to_12 within of_year of_month =
+parts_of_date year month rest day_of_year day year_from_1 year_to_9999 month_from_1 month_to_12 within of_year
+    of_month =
     let date : IsDate year month (rest + 1) =
     record {
       year_from_1 = year_from_1;

@@ -20,4 +20,6 @@ end_of_calendar = omega (arith, days_of_years 9999)
 -- the months of a year make up the year
 pub days_of_months : (year : ℕ) → sum_up_to (days_of_month year) 12 ≡ days_of_year year
 unfolding sum_up_to
-days_of_months year = elim (is_leap_year year) as (λ b. 0 + 31 + cond b 29 28 + 31 + 30 + 31 + 30 + 31 + 31 + 30 + 31 + 30 + 31 ≡ cond b 366 365) [ true ↦ refl | false ↦ refl ]
+days_of_months year =
+    elim (is_leap_year year) as (λ b. 0 + 31 + cond b 29 28 + 31 + 30 + 31 + 30 + 31 + 31 + 30 + 31 + 30 + 31
+    ≡ cond b 366 365) [ true ↦ refl | false ↦ refl ]

@@ -7,7 +7,8 @@ pub mod Midnights
 pub mod NearMultiples
 pub mod PowersOfTen
 pub mod JiffDates
-pub mod LadderSteps
+pub mod MonthStarts
+pub mod YearStarts
 pub mod Raised
 pub mod UnitsOfTime
 pub mod ShiftedSums

@@ -43,7 +43,8 @@ module _ (step number : ℕ) (some : 0 < step) where
       (cases_lt (number / step) (w / step))
 
 -- above a number that isn't negative is the rest of its step
-pub least_multiple_above : (step past : ℕ) (bound r : ℤ) → 0 < step → past ≡ unsigned_abs bound % step → 0 < past → pos 0 ≤ℤ bound → r ≡ bound +ℤ pos (step - past)
+pub least_multiple_above : (step past : ℕ) (bound r : ℤ) → 0 < step → past ≡ unsigned_abs bound % step → 0 < past
+    → pos 0 ≤ℤ bound → r ≡ bound +ℤ pos (step - past)
     → IsLeast (λ v. IsMultipleOf step v × (bound ≤ℤ v)) r
 least_multiple_above step past (negsuc below) r some is more sign result = absurd (omega (arith, ints))
 least_multiple_above step past (pos number) r some is more sign result =
@@ -56,11 +57,16 @@ least_multiple_above step past (pos number) r some is more sign result =
     })
   where
     above : (w : ℤ) → IsMultipleOf step w → pos number ≤ℤ w → pos (number - number % step + step) ≤ℤ w
-    above (pos w) multiple reached = omega (arith, ints, least_above step number some (omega arith) w multiple (omega (arith, ints)))
+    above (pos w) multiple reached = omega (
+      arith,
+      ints,
+      least_above step number some (omega arith) w multiple (omega (arith, ints)),
+    )
     above (negsuc w) multiple reached = absurd (omega (arith, ints))
 
 -- and above a negative one its remainder
-pub least_multiple_towards_zero : (step past : ℕ) (bound r : ℤ) → 0 < step → past ≡ unsigned_abs bound % step → bound <ℤ pos 0 → r ≡ bound +ℤ pos past
+pub least_multiple_towards_zero : (step past : ℕ) (bound r : ℤ) → 0 < step → past ≡ unsigned_abs bound % step
+    → bound <ℤ pos 0 → r ≡ bound +ℤ pos past
     → IsLeast (λ v. IsMultipleOf step v × (bound ≤ℤ v)) r
 least_multiple_towards_zero step past (pos number) r some is sign result = absurd (omega (arith, ints))
 least_multiple_towards_zero step past (negsuc below) r some is sign result =
@@ -73,10 +79,12 @@ least_multiple_towards_zero step past (negsuc below) r some is sign result =
   where
     towards_zero : (w : ℤ) → IsMultipleOf step w → negsuc below ≤ℤ w → r ≤ℤ w
     towards_zero (pos w) multiple reached = omega (arith, ints)
-    towards_zero (negsuc w) multiple reached = omega (arith, ints, greatest_below step (suc below) some (suc w) multiple (omega (arith, ints)))
+    towards_zero (negsuc w) multiple reached =
+        omega (arith, ints, greatest_below step (suc below) some (suc w) multiple (omega (arith, ints)))
 
 -- below a number that isn't negative lies its remainder
-pub greatest_multiple_towards_zero : (step past : ℕ) (bound r : ℤ) → 0 < step → past ≡ unsigned_abs bound % step → pos 0 ≤ℤ bound → r ≡ bound -ℤ pos past
+pub greatest_multiple_towards_zero : (step past : ℕ) (bound r : ℤ) → 0 < step → past ≡ unsigned_abs bound % step
+    → pos 0 ≤ℤ bound → r ≡ bound -ℤ pos past
     → IsGreatest (λ v. IsMultipleOf step v × (v ≤ℤ bound)) r
 greatest_multiple_towards_zero step past (negsuc below) r some is sign result = absurd (omega (arith, ints))
 greatest_multiple_towards_zero step past (pos number) r some is sign result =
@@ -89,11 +97,16 @@ greatest_multiple_towards_zero step past (pos number) r some is sign result =
     })
   where
     towards_zero : (w : ℤ) → IsMultipleOf step w → w ≤ℤ pos number → w ≤ℤ pos (number - number % step)
-    towards_zero (pos w) multiple within = omega (arith, ints, greatest_below step number some w multiple (omega (arith, ints)))
+    towards_zero (pos w) multiple within = omega (
+      arith,
+      ints,
+      greatest_below step number some w multiple (omega (arith, ints)),
+    )
     towards_zero (negsuc w) multiple within = omega (arith, ints)
 
 -- and below a negative one the rest of its step
-pub greatest_multiple_below : (step past : ℕ) (bound r : ℤ) → 0 < step → past ≡ unsigned_abs bound % step → 0 < past → bound <ℤ pos 0 → r ≡ bound -ℤ pos (step - past)
+pub greatest_multiple_below : (step past : ℕ) (bound r : ℤ) → 0 < step → past ≡ unsigned_abs bound % step → 0 < past
+    → bound <ℤ pos 0 → r ≡ bound -ℤ pos (step - past)
     → IsGreatest (λ v. IsMultipleOf step v × (v ≤ℤ bound)) r
 greatest_multiple_below step past (pos number) r some is more sign result = absurd (omega (arith, ints))
 greatest_multiple_below step past (negsuc below) r some is more sign result =
@@ -106,4 +119,8 @@ greatest_multiple_below step past (negsuc below) r some is more sign result =
   where
     down_to : (w : ℤ) → IsMultipleOf step w → w ≤ℤ negsuc below → w ≤ℤ r
     down_to (pos w) multiple within = omega (arith, ints)
-    down_to (negsuc w) multiple within = omega (arith, ints, least_above step (suc below) some (omega arith) (suc w) multiple (omega (arith, ints)))
+    down_to (negsuc w) multiple within = omega (
+      arith,
+      ints,
+      least_above step (suc below) some (omega arith) (suc w) multiple (omega (arith, ints)),
+    )

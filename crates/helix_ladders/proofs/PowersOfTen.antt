@@ -1,5 +1,5 @@
 -- The powers of ten that are steps of the grids of numbers.
-use Rattle.std.proofs.Common.{◌≡◌, ℕ, zero, suc, ◌+◌, ◌*◌, ◌/◌, ◌%◌, ◌^◌, ◌<◌, ◌≤◌, sym, ap, ◌∙◌, ℤ, pos, neg_ℤ, ◌≤ℤ◌, [], ◌∷◌, get_or, refl, arith}
+use Rattle.std.proofs.Common.{◌≡◌, ℕ, zero, suc, ◌+◌, ◌*◌, ◌/◌, ◌%◌, ◌^◌, ◌<◌, ◌≤◌, sym, ap, ◌∙◌, ℤ, pos, neg_ℤ, ◌≤ℤ◌, List, [], ◌∷◌, get_or, refl, arith}
 use Rattle.std.proofs.lemmas.Int.{ints}
 use Rattle.std.proofs.Math.Arith.{mod-mul}
 use Rattle.std.proofs.Math.Nat.{pow-suc, mod-eq_of_lt}
@@ -8,8 +8,19 @@ use Rattle.helix_ladders.specs.Scale.{IsLeast, IsGreatest, IsAtOrAfter, IsAtOrBe
 use Rattle.helix_ladders.specs.Ladders.{numbers_ladder}
 use Rattle.helix_ladders.specs.LadderLaws.{number_grid_coarser}
 
--- the table of the powers
-pub power_at : (level : ℕ) → level < 16 → get_or (1 ∷ 10 ∷ 100 ∷ 1000 ∷ 10000 ∷ 100000 ∷ 1000000 ∷ 10000000 ∷ 100000000 ∷ 1000000000 ∷ 10000000000 ∷ 100000000000 ∷ 1000000000000 ∷ 10000000000000 ∷ 100000000000000 ∷ 1000000000000000 ∷ []) level 0 ≡ 10 ^ level
+-- the tables of the powers of ten and of five, as the code has them
+abbrev tens : List ℕ
+tens =
+    1 ∷ 10 ∷ 100 ∷ 1000 ∷ 10000 ∷ 100000 ∷ 1000000 ∷ 10000000 ∷ 100000000 ∷ 1000000000 ∷ 10000000000 ∷
+    100000000000 ∷ 1000000000000 ∷ 10000000000000 ∷ 100000000000000 ∷ 1000000000000000 ∷ []
+
+abbrev fives : List ℕ
+fives =
+    1 ∷ 5 ∷ 25 ∷ 125 ∷ 625 ∷ 3125 ∷ 15625 ∷ 78125 ∷ 390625 ∷ 1953125 ∷ 9765625 ∷ 48828125 ∷ 244140625 ∷
+    1220703125 ∷ 6103515625 ∷ 30517578125 ∷ []
+
+pub power_at : (level : ℕ) → level < 16
+    → get_or tens level 0 ≡ 10 ^ level
 power_at zero within = refl
 power_at (suc zero) within = refl
 power_at (suc (suc zero)) within = refl
@@ -26,10 +37,11 @@ power_at (suc (suc (suc (suc (suc (suc (suc (suc (suc (suc (suc (suc zero)))))))
 power_at (suc (suc (suc (suc (suc (suc (suc (suc (suc (suc (suc (suc (suc zero))))))))))))) within = refl
 power_at (suc (suc (suc (suc (suc (suc (suc (suc (suc (suc (suc (suc (suc (suc zero)))))))))))))) within = refl
 power_at (suc (suc (suc (suc (suc (suc (suc (suc (suc (suc (suc (suc (suc (suc (suc zero))))))))))))))) within = refl
-power_at (suc (suc (suc (suc (suc (suc (suc (suc (suc (suc (suc (suc (suc (suc (suc (suc level)))))))))))))))) within = absurd (omega arith)
+power_at (suc (suc (suc (suc (suc (suc (suc (suc (suc (suc (suc (suc (suc (suc (suc (suc level)))))))))))))))) within =
+    absurd (omega arith)
 
--- the table of the powers of five
-pub five_at : (level : ℕ) → level < 16 → get_or (1 ∷ 5 ∷ 25 ∷ 125 ∷ 625 ∷ 3125 ∷ 15625 ∷ 78125 ∷ 390625 ∷ 1953125 ∷ 9765625 ∷ 48828125 ∷ 244140625 ∷ 1220703125 ∷ 6103515625 ∷ 30517578125 ∷ []) level 0 ≡ 5 ^ level
+pub five_at : (level : ℕ) → level < 16
+    → get_or fives level 0 ≡ 5 ^ level
 five_at zero within = refl
 five_at (suc zero) within = refl
 five_at (suc (suc zero)) within = refl
@@ -46,9 +58,11 @@ five_at (suc (suc (suc (suc (suc (suc (suc (suc (suc (suc (suc (suc zero))))))))
 five_at (suc (suc (suc (suc (suc (suc (suc (suc (suc (suc (suc (suc (suc zero))))))))))))) within = refl
 five_at (suc (suc (suc (suc (suc (suc (suc (suc (suc (suc (suc (suc (suc (suc zero)))))))))))))) within = refl
 five_at (suc (suc (suc (suc (suc (suc (suc (suc (suc (suc (suc (suc (suc (suc (suc zero))))))))))))))) within = refl
-five_at (suc (suc (suc (suc (suc (suc (suc (suc (suc (suc (suc (suc (suc (suc (suc (suc level)))))))))))))))) within = absurd (omega arith)
+five_at (suc (suc (suc (suc (suc (suc (suc (suc (suc (suc (suc (suc (suc (suc (suc (suc level)))))))))))))))) within =
+    absurd (omega arith)
 
-pub five_small : (level : ℕ) → level < 16 → get_or (1 ∷ 5 ∷ 25 ∷ 125 ∷ 625 ∷ 3125 ∷ 15625 ∷ 78125 ∷ 390625 ∷ 1953125 ∷ 9765625 ∷ 48828125 ∷ 244140625 ∷ 1220703125 ∷ 6103515625 ∷ 30517578125 ∷ []) level 0 ≤ 5 ^ 15
+pub five_small : (level : ℕ) → level < 16
+    → get_or fives level 0 ≤ 5 ^ 15
 five_small zero within = omega arith
 five_small (suc zero) within = omega arith
 five_small (suc (suc zero)) within = omega arith
@@ -64,8 +78,10 @@ five_small (suc (suc (suc (suc (suc (suc (suc (suc (suc (suc (suc zero))))))))))
 five_small (suc (suc (suc (suc (suc (suc (suc (suc (suc (suc (suc (suc zero)))))))))))) within = omega arith
 five_small (suc (suc (suc (suc (suc (suc (suc (suc (suc (suc (suc (suc (suc zero))))))))))))) within = omega arith
 five_small (suc (suc (suc (suc (suc (suc (suc (suc (suc (suc (suc (suc (suc (suc zero)))))))))))))) within = omega arith
-five_small (suc (suc (suc (suc (suc (suc (suc (suc (suc (suc (suc (suc (suc (suc (suc zero))))))))))))))) within = omega arith
-five_small (suc (suc (suc (suc (suc (suc (suc (suc (suc (suc (suc (suc (suc (suc (suc (suc level)))))))))))))))) within = absurd (omega arith)
+five_small (suc (suc (suc (suc (suc (suc (suc (suc (suc (suc (suc (suc (suc (suc (suc zero))))))))))))))) within =
+    omega arith
+five_small (suc (suc (suc (suc (suc (suc (suc (suc (suc (suc (suc (suc (suc (suc (suc (suc level))))))))))))))))
+    within = absurd (omega arith)
 
 -- a power of ten is one of five times one of two
 ten_is : (level : ℕ) → 10 ^ level ≡ 5 ^ level * 2 ^ level
@@ -82,7 +98,8 @@ five_positive (suc level) = omega (arith, pow-suc 5 level, five_positive level)
 
 remainder_by_parts : (number level : ℕ) →
     (number / 2 ^ level % 5 ^ level) * 2 ^ level + number % 2 ^ level ≡ number % 10 ^ level
-remainder_by_parts number level = sym (ap (λ n. number % n) (ten_is level) ∙ mod-mul number (five_positive level) (two_positive level))
+remainder_by_parts number level = sym (ap (λ n. number % n) (ten_is level)
+    ∙ mod-mul number (five_positive level) (two_positive level))
 
 pub two_small : (level : ℕ) → level < 16 → 2 ^ level ≤ 2 ^ 15
 two_small zero within = omega arith
@@ -100,8 +117,10 @@ two_small (suc (suc (suc (suc (suc (suc (suc (suc (suc (suc (suc zero)))))))))))
 two_small (suc (suc (suc (suc (suc (suc (suc (suc (suc (suc (suc (suc zero)))))))))))) within = omega arith
 two_small (suc (suc (suc (suc (suc (suc (suc (suc (suc (suc (suc (suc (suc zero))))))))))))) within = omega arith
 two_small (suc (suc (suc (suc (suc (suc (suc (suc (suc (suc (suc (suc (suc (suc zero)))))))))))))) within = omega arith
-two_small (suc (suc (suc (suc (suc (suc (suc (suc (suc (suc (suc (suc (suc (suc (suc zero))))))))))))))) within = omega arith
-two_small (suc (suc (suc (suc (suc (suc (suc (suc (suc (suc (suc (suc (suc (suc (suc (suc level)))))))))))))))) within = absurd (omega arith)
+two_small (suc (suc (suc (suc (suc (suc (suc (suc (suc (suc (suc (suc (suc (suc (suc zero))))))))))))))) within =
+    omega arith
+two_small (suc (suc (suc (suc (suc (suc (suc (suc (suc (suc (suc (suc (suc (suc (suc (suc level)))))))))))))))) within =
+    absurd (omega arith)
 
 pub small_power_of_two : (level : ℕ) → level < 16 → 1 * 2 ^ level % 2 ^ 128 ≡ 2 ^ level
 small_power_of_two level within =
@@ -109,7 +128,8 @@ small_power_of_two level within =
     rw same (mod-eq_of_lt (omega (arith, two_small level within)))
 
 -- a division by a power of ten, in two
-module _ (number level high five two : ℕ) (is_five : five ≡ 5 ^ level) (is_two : two ≡ 2 ^ level) (is_high : high ≡ number / two) where
+module _ (number level high five two : ℕ) (is_five : five ≡ 5 ^ level) (is_two : two ≡ 2 ^ level) (is_high : high
+    ≡ number / two) where
   pub remainder_in_two : high % five * two + number % two ≡ number % 10 ^ level
   remainder_in_two = rw (is_high, is_five, is_two) (remainder_by_parts number level)
 
@@ -118,14 +138,18 @@ pub end_on_grid : (level : ℕ) → level < 16 → IsOnNumberGrid level (pos (10
 end_on_grid level within = number_grid_coarser 15 level (pos (10 ^ 35)) (omega arith) (omega arith) refl
 
 -- the least multiple from a bound that is raised to the range is the least of the range
-pub least_in_range : (level step : ℕ) (bound raised r : ℤ) → level < 16 → step ≡ 10 ^ level → bound ≤ℤ pos (10 ^ 35) → bound ≤ℤ raised → neg_ℤ (pos (10 ^ 35)) ≤ℤ raised
+pub least_in_range : (level step : ℕ) (bound raised r : ℤ) → level < 16 → step ≡ 10 ^ level → bound ≤ℤ pos (10 ^ 35)
+    → bound ≤ℤ raised → neg_ℤ (pos (10 ^ 35)) ≤ℤ raised
     → ((w : ℤ) → neg_ℤ (pos (10 ^ 35)) ≤ℤ w → bound ≤ℤ w → raised ≤ℤ w)
     → IsLeast (λ v. IsMultipleOf step v × (raised ≤ℤ v)) r
     → IsLeast (IsAtOrAfter numbers_ladder level bound) r
 least_in_range level step bound raised r within power below above from_low no_more least = record {
   has = record {
     from_low = omega (arith, ints, least.has.1);
-    to_high = least.least (pos (10 ^ 35)) (rw power (end_on_grid level within), no_more (pos (10 ^ 35)) (omega (arith, ints)) below);
+    to_high = least.least (pos (10 ^ 35)) (
+      rw power (end_on_grid level within),
+      no_more (pos (10 ^ 35)) (omega (arith, ints)) below,
+    );
     on_grid = rw power at least.has.0;
     reached = omega (arith, ints, least.has.1);
   };
@@ -133,13 +157,17 @@ least_in_range level step bound raised r within power below above from_low no_mo
 }
 
 -- and the greatest up to a bound that is lowered to it is the greatest of the range
-pub greatest_in_range : (level step : ℕ) (bound lowered r : ℤ) → level < 16 → step ≡ 10 ^ level → neg_ℤ (pos (10 ^ 35)) ≤ℤ bound → lowered ≤ℤ bound → lowered ≤ℤ pos (10 ^ 35)
+pub greatest_in_range : (level step : ℕ) (bound lowered r : ℤ) → level < 16 → step ≡ 10 ^ level
+    → neg_ℤ (pos (10 ^ 35)) ≤ℤ bound → lowered ≤ℤ bound → lowered ≤ℤ pos (10 ^ 35)
     → ((w : ℤ) → w ≤ℤ pos (10 ^ 35) → w ≤ℤ bound → w ≤ℤ lowered)
     → IsGreatest (λ v. IsMultipleOf step v × (v ≤ℤ lowered)) r
     → IsGreatest (IsAtOrBefore numbers_ladder level bound) r
 greatest_in_range level step bound lowered r within power above below to_high no_less greatest = record {
   has = record {
-    from_low = greatest.greatest (neg_ℤ (pos (10 ^ 35))) (rw power (end_on_grid level within), no_less (neg_ℤ (pos (10 ^ 35))) (omega (arith, ints)) above);
+    from_low = greatest.greatest (neg_ℤ (pos (10 ^ 35))) (
+      rw power (end_on_grid level within),
+      no_less (neg_ℤ (pos (10 ^ 35))) (omega (arith, ints)) above,
+    );
     to_high = omega (arith, ints, greatest.has.1);
     on_grid = rw power at greatest.has.0;
     within = omega (arith, ints, greatest.has.1);

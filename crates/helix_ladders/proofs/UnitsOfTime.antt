@@ -21,7 +21,8 @@ module _ (level : ℕ) (unit : level ≤ 4) where
 
   -- the greatest multiple of a unit of time up to a moment
   pub unit_greatest : (to r : ℤ) → pos 0 ≤ℤ to → to ≤ℤ pos last_moment
-      → IsGreatest (λ v. IsMultipleOf (slice_index units_of_time level) v × (v ≤ℤ to)) r → IsGreatest (IsAtOrBefore moments_ladder level to) r
+      → IsGreatest (λ v. IsMultipleOf (slice_index units_of_time level) v × (v ≤ℤ to)) r
+      → IsGreatest (IsAtOrBefore moments_ladder level to) r
   unit_greatest to r begun ends greatest = record {
     has = record {
       from_low = greatest.greatest (pos 0) (zero-mod (slice_index units_of_time level), begun);

@@ -24,7 +24,8 @@ multiple_of_factor m n k multiple =
 pub number_grid_finest : (v : ℤ) → IsOnNumberGrid 0 v
 number_grid_finest v = omega arith
 
-pub number_grid_coarser : (level finer : ℕ) (v : ℤ) → finer ≤ level → level < 16 → IsOnNumberGrid level v → IsOnNumberGrid finer v
+pub number_grid_coarser : (level finer : ℕ) (v : ℤ) → finer ≤ level → level < 16 → IsOnNumberGrid level v
+    → IsOnNumberGrid finer v
 number_grid_coarser level finer v below within on =
     let split : level ≡ (level - finer) + finer = omega arith in
     multiple_of_factor (10 ^ (level - finer)) (10 ^ finer) (unsigned_abs v)
@@ -50,12 +51,15 @@ next_finer (suc (suc (suc (suc (suc zero))))) v within on = year_start_is_month_
 next_finer (suc (suc (suc (suc (suc (suc level)))))) v within on = absurd (omega arith)
 
 finer_by : (steps finer : ℕ) (v : ℤ) → steps + finer < 7 → IsOnMomentGrid (steps + finer) v → IsOnMomentGrid finer v
-finer_by zero finer v within on = let none : zero + finer ≡ finer = omega arith in subst (λ level. IsOnMomentGrid level v) none on
+finer_by zero finer v within on = let none : zero + finer ≡ finer = omega arith in
+    subst (λ level. IsOnMomentGrid level v) none on
 finer_by (suc steps) finer v within on =
     let next : suc steps + finer ≡ suc (steps + finer) = omega arith in
-    finer_by steps finer v (omega arith) (next_finer (steps + finer) v (omega arith) (subst (λ level. IsOnMomentGrid level v) next on))
+    finer_by steps finer v (omega arith) (next_finer (steps + finer) v (omega arith)
+    (subst (λ level. IsOnMomentGrid level v) next on))
 
-pub moment_grid_coarser : (level finer : ℕ) (v : ℤ) → finer ≤ level → level < 7 → IsOnMomentGrid level v → IsOnMomentGrid finer v
+pub moment_grid_coarser : (level finer : ℕ) (v : ℤ) → finer ≤ level → level < 7 → IsOnMomentGrid level v
+    → IsOnMomentGrid finer v
 moment_grid_coarser level finer v below within on =
     let split : level ≡ (level - finer) + finer = omega arith in
     finer_by (level - finer) finer v (omega arith) (subst (λ l. IsOnMomentGrid l v) split on)

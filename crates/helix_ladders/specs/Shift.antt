@@ -46,7 +46,8 @@ working_days_before (suc day) = working_days_before day + (if is_working_day day
 -- a working day for which the days after `day` up to it hold this many working days
 abbrev pub is_working_day_after : ℕ → ℕ → ℕ → Bool
 is_working_day_after count day later =
-    nat_lt day later && is_working_day later && (working_days_before (later + 1) == working_days_before (day + 1) + count)
+    nat_lt day later && is_working_day later
+    && (working_days_before (later + 1) == working_days_before (day + 1) + count)
 
 -- a working day for which the days from it up to the one before `day` hold this many working days
 abbrev pub is_working_day_ahead : ℕ → ℕ → ℕ → Bool
@@ -56,8 +57,10 @@ is_working_day_ahead count day earlier =
 -- the day that is n working days later or earlier, of which there is one at most
 abbrev pub shifted_working_days : ℤ → ℕ → ℤ
 shifted_working_days (pos zero) day = midnight day
-shifted_working_days (pos (suc n)) day = option_map_or midnight (last_below (is_working_day_after (suc n) day) days_of_calendar) after_all
-shifted_working_days (negsuc n) day = option_map_or midnight (last_below (is_working_day_ahead (suc n) day) days_of_calendar) before_all
+shifted_working_days (pos (suc n)) day =
+    option_map_or midnight (last_below (is_working_day_after (suc n) day) days_of_calendar) after_all
+shifted_working_days (negsuc n) day = option_map_or midnight
+    (last_below (is_working_day_ahead (suc n) day) days_of_calendar) before_all
 
 -- a value shifted by an offset: a sum, or the first millisecond of the day that is so far from the value's day
 abbrev pub shifted : Offset → ℤ → ℤ

@@ -190,7 +190,8 @@ fn day_to(to: i128) -> u32
 /// The first day from a day on that is the first of a month.
 fn month_day_from(day: u32) -> Option<u32>
     requires { day ≤ days_of_calendar }
-    ensures some { IfSome result (λ first. IsLeast (λ v. IsMonthStart v × (first_of_day day ≤ℤ v)) (first_of_day first)) }
+    ensures some { IfSome result (λ first.
+        IsLeast (λ v. IsMonthStart v × (first_of_day day ≤ℤ v)) (first_of_day first)) }
     ensures in_calendar { IfSome result (λ first. first < days_of_calendar) }
     ensures none { IfNone result ((v : ℤ) → first_of_day day ≤ℤ v → ¬ IsMonthStart v) }
 {
@@ -216,7 +217,8 @@ fn month_day_to(day: u32) -> u32
 /// The first day from a day on that is the first of a year.
 fn year_day_from(day: u32) -> Option<u32>
     requires { day ≤ days_of_calendar }
-    ensures some { IfSome result (λ first. IsLeast (λ v. IsYearStart v × (first_of_day day ≤ℤ v)) (first_of_day first)) }
+    ensures some { IfSome result (λ first.
+        IsLeast (λ v. IsYearStart v × (first_of_day day ≤ℤ v)) (first_of_day first)) }
     ensures in_calendar { IfSome result (λ first. first < days_of_calendar) }
     ensures none { IfNone result ((v : ℤ) → first_of_day day ≤ℤ v → ¬ IsYearStart v) }
 {

@@ -29,7 +29,8 @@ pub trait Shift {
     /// The least value of the range whose result isn't below a target.
     fn least_from(&self, target: i128) -> Option<i128>
         ensures some { IfSome result (IsLeast (IsShiftedTo (low self.now) (high self.now) (applied self.now) target)) }
-        ensures none { IfNone result ((v : ℤ) → ¬ IsShiftedTo (low self.now) (high self.now) (applied self.now) target v) };
+        ensures none { IfNone result ((v : ℤ)
+            → ¬ IsShiftedTo (low self.now) (high self.now) (applied self.now) target v) };
 
     // A greater value has no lesser result.
     ghost rises: { (s : Self) (v w : ℤ) → low s ≤ℤ v → v ≤ℤ w → w ≤ℤ high s → applied s v ≤ℤ applied s w };

@@ -6,7 +6,8 @@ use Rattle.helix_values.specs.Codes.{value_of, sedol_weights}
 
 -- the first product, and the rest
 pub weighted_sum-drop : (ws cs : List ℕ) (i : ℕ) → i < length ws → i < length cs
-    → weighted_sum (drop i ws) (map value_of (drop i cs)) ≡ get_or ws i 0 * value_of (get_or cs i 0) + weighted_sum (drop (i + 1) ws) (map value_of (drop (i + 1) cs))
+    → weighted_sum (drop i ws) (map value_of (drop i cs))
+    ≡ get_or ws i 0 * value_of (get_or cs i 0) + weighted_sum (drop (i + 1) ws) (map value_of (drop (i + 1) cs))
 weighted_sum-drop ws cs i in_ws in_cs = rw (add-one, drop-cons ws i 0, drop-cons cs i 0) refl
 
 weight_small : (i : ℕ) → get_or sedol_weights i 0 ≤ 9

@@ -33,7 +33,8 @@ null_last (cell.Moment b) less = cc
 null_last (cell.Text b) less = cc
 
 -- a later cell has all up to an earlier one below it
-counts_rise : (class : Class) (a b : Cell) → IsMarkBound class a → IsMarkBound class b → CellLess a b → values_up_to class a ≤ values_below class b
+counts_rise : (class : Class) (a b : Cell) → IsMarkBound class a → IsMarkBound class b → CellLess a b
+    → values_up_to class a ≤ values_below class b
 counts_rise class cell.Null b of_a of_b less = absurd (null_last b less)
 counts_rise booleans (cell.Bool false) (cell.Bool true) of_a of_b less = omega arith
 counts_rise booleans (cell.Bool false) (cell.Bool false) of_a of_b less = cc
@@ -41,20 +42,26 @@ counts_rise booleans (cell.Bool true) (cell.Bool false) of_a of_b less = cc
 counts_rise booleans (cell.Bool true) (cell.Bool true) of_a of_b less = cc
 counts_rise booleans (cell.Bool true) cell.Null of_a of_b less = omega arith
 counts_rise booleans (cell.Bool false) cell.Null of_a of_b less = omega arith
-counts_rise numbers (cell.Number a) (cell.Number b) of_a of_b less = omega (arith, ints, int_less a b less, natural_is (a +ℤ pos 1 +ℤ pos (10 ^ 35)), natural_is (b +ℤ pos (10 ^ 35)))
+counts_rise numbers (cell.Number a) (cell.Number b) of_a of_b less =
+    omega (arith, ints, int_less a b less, natural_is (a +ℤ pos 1 +ℤ pos (10 ^ 35)), natural_is (b +ℤ pos (10 ^ 35)))
 counts_rise numbers (cell.Number a) cell.Null of_a of_b less = omega arith
-counts_rise moments (cell.Moment a) (cell.Moment b) of_a of_b less = omega (arith, ints, int_less a b less, natural_is (a +ℤ pos 1), natural_is b)
+counts_rise moments (cell.Moment a) (cell.Moment b) of_a of_b less =
+    omega (arith, ints, int_less a b less, natural_is (a +ℤ pos 1), natural_is b)
 counts_rise moments (cell.Moment a) cell.Null of_a of_b less = omega arith
-counts_rise strings (cell.Text a) (cell.Text b) of_a of_b less = text_counts_rise 1000 a b _ _ _ _ of_a.1 of_b.1 (text_count 1000 a) (text_count 1000 b) less
+counts_rise strings (cell.Text a) (cell.Text b) of_a of_b less =
+    text_counts_rise 1000 a b _ _ _ _ of_a.1 of_b.1 (text_count 1000 a) (text_count 1000 b) less
 counts_rise strings (cell.Text a) cell.Null of_a of_b less = up_to_all 1000 a _ _ of_a.1 (text_count 1000 a)
 counts_rise class a b of_a of_b less = cc
 
 -- a value of the widest universe counts itself
-counts_itself : (class : Class) (v : Cell) → InUniverse (widest_kind class) v → values_below class v + 1 ≤ values_up_to class v
+counts_itself : (class : Class) (v : Cell) → InUniverse (widest_kind class) v
+    → values_below class v + 1 ≤ values_up_to class v
 counts_itself booleans (cell.Bool true) within = omega arith
 counts_itself booleans (cell.Bool false) within = omega arith
-counts_itself numbers (cell.Number u) within = omega (arith, ints, within.0, within.1, natural_is (u +ℤ pos 1 +ℤ pos (10 ^ 35)), natural_is (u +ℤ pos (10 ^ 35)))
-counts_itself moments (cell.Moment at) within = omega (arith, ints, within.0, within.1, natural_is (at +ℤ pos 1), natural_is at)
+counts_itself numbers (cell.Number u) within =
+    omega (arith, ints, within.0, within.1, natural_is (u +ℤ pos 1 +ℤ pos (10 ^ 35)), natural_is (u +ℤ pos (10 ^ 35)))
+counts_itself moments (cell.Moment at) within =
+    omega (arith, ints, within.0, within.1, natural_is (at +ℤ pos 1), natural_is at)
 counts_itself strings (cell.Text text) within = omega (arith, ((text_count 1000 text).short within.0).1)
 counts_itself booleans other within = absurd within
 counts_itself numbers other within = absurd within
@@ -87,7 +94,12 @@ counts_grow : (class : Class) (c : Cell) → values_below class c ≤ values_up_
 counts_grow class cell.Null = omega arith
 counts_grow class (cell.Bool true) = omega arith
 counts_grow class (cell.Bool false) = omega arith
-counts_grow class (cell.Number u) = omega (arith, ints, natural_is (u +ℤ pos 1 +ℤ pos (10 ^ 35)), natural_is (u +ℤ pos (10 ^ 35)))
+counts_grow class (cell.Number u) = omega (
+  arith,
+  ints,
+  natural_is (u +ℤ pos 1 +ℤ pos (10 ^ 35)),
+  natural_is (u +ℤ pos (10 ^ 35)),
+)
 counts_grow class (cell.Moment at) = omega (arith, ints, natural_is (at +ℤ pos 1), natural_is at)
 counts_grow class (cell.Text text) = omega arith
 
@@ -112,7 +124,8 @@ never_both a b before after = never_before_itself cell_cmp_total a (cell_cmp_tot
 pub record LeavesOut (class : Class) (m : Mark) (count : ℕ) : Type 0 where
   pub left : values_left class m ≡ values_of class - count
 
-admits_from : (class : Class) (m : Mark) (v : Cell) → IsMarkOf class m → InUniverse (widest_kind class) v → IsAdmitted m v → (count : ℕ) × LeavesOut class m count × (count ≤ values_below class v)
+admits_from : (class : Class) (m : Mark) (v : Cell) → IsMarkOf class m → InUniverse (widest_kind class) v
+    → IsAdmitted m v → (count : ℕ) × LeavesOut class m count × (count ≤ values_below class v)
 admits_from class Start v of_m within admitted = (0, record { left = omega arith }, omega arith)
 admits_from class (At bound) v of_m within admitted = (
   values_below class (cell_of bound),
@@ -120,20 +133,33 @@ admits_from class (At bound) v of_m within admitted = (
   elim (cases_cell v (cell_of bound)) [
     | inl before ↦ absurd (admitted before)
     | inr (inl same) ↦ subst (λ c. values_below class c ≤ values_below class v) same (omega arith)
-    | inr (inr after) ↦ omega (arith, counts_grow class (cell_of bound), counts_rise class (cell_of bound) v of_m (bound_of class v within) after)
+    | inr (inr after) ↦ omega (
+      arith,
+      counts_grow class (cell_of bound),
+      counts_rise class (cell_of bound) v of_m (bound_of class v within) after,
+    )
   ],
 )
-admits_from class (After bound) v of_m within admitted =
-    (values_up_to class (cell_of bound), record { left = refl }, counts_rise class (cell_of bound) v of_m (bound_of class v within) admitted)
+admits_from class (After bound) v of_m within admitted = (
+  values_up_to class (cell_of bound),
+  record { left = refl },
+  counts_rise class (cell_of bound) v of_m (bound_of class v within) admitted,
+)
 
-refuses_up_to : (class : Class) (n : Mark) (v : Cell) → IsMarkOf class n → InUniverse (widest_kind class) v → (IsAdmitted n v → ⊥) → (count : ℕ) × LeavesOut class n count × (values_below class v + 1 ≤ count)
+refuses_up_to : (class : Class) (n : Mark) (v : Cell) → IsMarkOf class n → InUniverse (widest_kind class) v
+    → (IsAdmitted n v → ⊥) → (count : ℕ) × LeavesOut class n count × (values_below class v + 1 ≤ count)
 refuses_up_to class Start v of_n within refused = absurd (refused tt)
 refuses_up_to class (At bound) v of_n within refused = (
   values_below class (cell_of bound),
   record { left = refl },
   elim (cases_cell v (cell_of bound)) [
-    | inl before ↦ omega (arith, counts_itself class v within, counts_rise class v (cell_of bound) (bound_of class v within) of_n before)
-    | inr (inl same) ↦ absurd (refused (λ before. never_before_itself cell_cmp_total v (subst (λ c. CellLess v c) (sym same) before)))
+    | inl before ↦ omega (
+      arith,
+      counts_itself class v within,
+      counts_rise class v (cell_of bound) (bound_of class v within) of_n before,
+    )
+    | inr (inl same) ↦ absurd (refused (λ before. never_before_itself cell_cmp_total v
+        (subst (λ c. CellLess v c) (sym same) before)))
     | inr (inr after) ↦ absurd (refused (λ before. never_both v (cell_of bound) before after))
   ],
 )
@@ -142,14 +168,29 @@ refuses_up_to class (After bound) v of_n within refused = (
   record { left = refl },
   elim (cases_cell v (cell_of bound)) [
     | inl before ↦
-        omega (arith, counts_itself class v within, counts_rise class v (cell_of bound) (bound_of class v within) of_n before, counts_grow class (cell_of bound))
+        omega (
+          arith,
+          counts_itself class v within,
+          counts_rise class v (cell_of bound) (bound_of class v within) of_n before,
+          counts_grow class (cell_of bound),
+        )
     | inr (inl same) ↦ subst (λ c. values_below class v + 1 ≤ values_up_to class c) same (counts_itself class v within)
     | inr (inr after) ↦ absurd (refused after)
   ],
 )
 
-pub fewer : (class : Class) (m n : Mark) (v : Cell) → IsMarkOf class m → IsMarkOf class n → InUniverse (widest_kind class) v → IsAdmitted m v → (IsAdmitted n v → ⊥) → values_left class n < values_left class m
+pub fewer : (class : Class) (m n : Mark) (v : Cell) → IsMarkOf class m → IsMarkOf class n
+    → InUniverse (widest_kind class) v → IsAdmitted m v → (IsAdmitted n v → ⊥)
+    → values_left class n < values_left class m
 fewer class m n v of_m of_n within admitted refused =
     let before = admits_from class m v of_m within admitted in
     let after = refuses_up_to class n v of_n within refused in
-    omega (arith, before.1.left, before.2, after.1.left, after.2, counts_itself class v within, counts_within class v within)
+    omega (
+      arith,
+      before.1.left,
+      before.2,
+      after.1.left,
+      after.2,
+      counts_itself class v within,
+      counts_within class v within,
+    )

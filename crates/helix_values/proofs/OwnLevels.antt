@@ -55,4 +55,5 @@ on_own_level kind.Date level value is =
     subst (λ l. InUniverse kind.Date value ↔ (InUniverse kind.DateTime value × IsOnGrid l value)) e (date value)
 on_own_level kind.DateTime level value is =
     let e : 0 ≡ level = cc in
-    subst (λ l. InUniverse kind.DateTime value ↔ (InUniverse kind.DateTime value × IsOnGrid l value)) e (date_time value)
+    subst (λ l. InUniverse kind.DateTime value
+    ↔ (InUniverse kind.DateTime value × IsOnGrid l value)) e (date_time value)

@@ -19,11 +19,13 @@ use Rattle.helix_values.specs.Order.{text_cmp}
 use Rattle.helix_values.specs.Counts.{characters, characters_below, same_length_below, shorter_texts}
 
 -- the ranges of the alphabet
-ranges : (c : ℕ) → IsCharacterOf Unicode c → ((32 ≤ c) × (c ≤ 126)) ⊎ (((160 ≤ c) × (c ≤ 55295)) ⊎ ((57344 ≤ c) × (c ≤ 1114111)))
+ranges : (c : ℕ) → IsCharacterOf Unicode c
+    → ((32 ≤ c) × (c ≤ 126)) ⊎ (((160 ≤ c) × (c ≤ 55295)) ⊎ ((57344 ≤ c) × (c ≤ 1114111)))
 ranges c is =
     ⊎_elim {A = c < 127} {B = 127 ≤ c} (λ low. inl (grind (arith, nat_tests)))
     (λ higher.
-    ⊎_elim {A = c < 55296} {B = 55296 ≤ c} (λ middle. inr (inl (grind (arith, nat_tests)))) (λ high. inr (inr (grind (arith, nat_tests)))) (cases_lt c 55296))
+    ⊎_elim {A = c < 55296} {B = 55296 ≤ c} (λ middle. inr (inl (grind (arith, nat_tests))))
+    (λ high. inr (inr (grind (arith, nat_tests)))) (cases_lt c 55296))
     (cases_lt c 127)
 
 -- a greater code has more characters below it where a character is below it
@@ -65,9 +67,15 @@ unfolding same_length_below
 same_length_bound [] all = omega arith
 same_length_bound (c ∷ a) all =
     let bound = characters_bound c (All-head (IsCharacterOf Unicode) c a all) in
-    omega (arith, same_length_bound a (All-tail (IsCharacterOf Unicode) c a all), mul-le-mul_right (characters ^ length a) bound, power_more (length a))
+    omega (
+      arith,
+      same_length_bound a (All-tail (IsCharacterOf Unicode) c a all),
+      mul-le-mul_right (characters ^ length a) bound,
+      power_more (length a),
+    )
 
-same_length_rise : (a b : List ℕ) → All (IsCharacterOf Unicode) a → All (IsCharacterOf Unicode) b → length a ≡ length b → slice_cmp nat_cmp a b ≡ Less → same_length_below a + 1 ≤ same_length_below b
+same_length_rise : (a b : List ℕ) → All (IsCharacterOf Unicode) a → All (IsCharacterOf Unicode) b → length a ≡ length b
+    → slice_cmp nat_cmp a b ≡ Less → same_length_below a + 1 ≤ same_length_below b
 unfolding same_length_below
 same_length_rise [] [] of_a of_b same less = cc
 same_length_rise [] (y ∷ b) of_a of_b same less = absurd (omega arith)
@@ -78,11 +86,24 @@ same_length_rise (x ∷ a) (y ∷ b) of_a of_b same less =
     elim (first_of (nat_cmp x y) (slice_cmp nat_cmp a b) less) [
       | inl first ↦
           let rise = characters_rise x y (All-head (IsCharacterOf Unicode) x a of_a) (nat_less x y first) in
-          omega (arith, powers, same_length_bound a (All-tail (IsCharacterOf Unicode) x a of_a), mul-le-mul_right (characters ^ length a) rise, ap (λ p. characters_below y * p) powers)
+          omega (
+            arith,
+            powers,
+            same_length_bound a (All-tail (IsCharacterOf Unicode) x a of_a),
+            mul-le-mul_right (characters ^ length a) rise,
+            ap (λ p. characters_below y * p) powers,
+          )
       | inr rest ↦
           let heads = nat_equal x y rest.0 in
-          let below : characters_below x * characters ^ length a ≡ characters_below y * characters ^ length b = ap (λ k. characters_below k * characters ^ length a) heads ∙ ap (λ p. characters_below y * p) powers in
-          omega (arith, below, same_length_rise a b (All-tail (IsCharacterOf Unicode) x a of_a) (All-tail (IsCharacterOf Unicode) y b of_b) tails rest.1)
+          let below : characters_below x * characters ^ length a
+          ≡ characters_below y * characters ^ length b =
+          ap (λ k. characters_below k * characters ^ length a) heads ∙ ap (λ p. characters_below y * p) powers in
+          omega (
+            arith,
+            below,
+            same_length_rise a b (All-tail (IsCharacterOf Unicode) x a of_a)
+                (All-tail (IsCharacterOf Unicode) y b of_b) tails rest.1,
+          )
     ]
 
 shorter_more : (n : ℕ) → shorter_texts (suc n) ≡ shorter_texts n + characters ^ n
@@ -90,7 +111,8 @@ unfolding shorter_texts
 shorter_more n = refl
 
 shorter_by : (k n : ℕ) → shorter_texts n ≤ shorter_texts (k + n)
-shorter_by zero n = let none : zero + n ≡ n = omega arith in subst (λ m. shorter_texts n ≤ shorter_texts m) (sym none) (omega arith)
+shorter_by zero n = let none : zero + n ≡ n = omega arith in
+    subst (λ m. shorter_texts n ≤ shorter_texts m) (sym none) (omega arith)
 shorter_by (suc k) n =
     let next : suc k + n ≡ suc (k + n) = omega arith in
     subst (λ m. shorter_texts n ≤ shorter_texts m) (sym next) (omega (arith, shorter_more (k + n), shorter_by k n))
@@ -105,39 +127,68 @@ pub record IsTextCount (limit : ℕ) (text : List ℕ) (below up_to : ℕ) : Typ
   pub short : length text ≤ limit → (below ≡ shorter_texts (length text) + same_length_below text) × (up_to ≡ below + 1)
   pub long : limit < length text → (below ≡ shorter_texts (limit + 1)) × (up_to ≡ below)
 
-pub text_count : (limit : ℕ) (text : List ℕ) → let below = if nat_le (length text) limit then shorter_texts (length text) + same_length_below text else shorter_texts (limit + 1) in
+pub text_count : (limit : ℕ) (text : List ℕ)
+    → let below = if nat_le (length text) limit then shorter_texts (length text) + same_length_below text
+    else shorter_texts (limit + 1) in
     IsTextCount limit text below (below + (if nat_le (length text) limit then 1 else 0))
 text_count limit text = by (nat_le (length text) limit) refl
   where
     by : (b : Bool) → nat_le (length text) limit ≡ b
-        → let below = if b then shorter_texts (length text) + same_length_below text else shorter_texts (limit + 1) in IsTextCount limit text below (below + (if b then 1 else 0))
+        → let below = if b then shorter_texts (length text) + same_length_below text else shorter_texts (limit + 1) in
+        IsTextCount limit text below (below + (if b then 1 else 0))
     by true is = record { short = λ within. (refl, refl); long = λ past. absurd (grind (arith, nat_tests)) }
     by false is = record { short = λ within. absurd (grind (arith, nat_tests)); long = λ past. (refl, omega arith) }
 
-pub up_to_all : (limit : ℕ) (text : List ℕ) (below up_to : ℕ) → All (IsCharacterOf Unicode) text → IsTextCount limit text below up_to → up_to ≤ shorter_texts (limit + 1)
+pub up_to_all : (limit : ℕ) (text : List ℕ) (below up_to : ℕ) → All (IsCharacterOf Unicode) text
+    → IsTextCount limit text below up_to → up_to ≤ shorter_texts (limit + 1)
 up_to_all limit text below up_to all count =
     ⊎_elim {A = limit < length text} {B = length text ≤ limit}
     (λ past. omega (arith, (count.long past).0, (count.long past).1))
     (λ within.
     let here = count.short within in
-    omega (arith, here.0, here.1, same_length_bound text all, shorter_more (length text), shorter_rise (suc (length text)) (limit + 1) (omega arith)))
+    omega (
+      arith,
+      here.0,
+      here.1,
+      same_length_bound text all,
+      shorter_more (length text),
+      shorter_rise (suc (length text)) (limit + 1) (omega arith),
+    ))
     (cases_lt limit (length text))
 
 -- a later text has all up to an earlier one below it
-pub text_counts_rise : (limit : ℕ) (a b : List ℕ) (below_a up_to_a below_b up_to_b : ℕ) → All (IsCharacterOf Unicode) a → All (IsCharacterOf Unicode) b
-    → IsTextCount limit a below_a up_to_a → IsTextCount limit b below_b up_to_b → text_cmp a b ≡ Less → up_to_a ≤ below_b
+pub text_counts_rise : (limit : ℕ) (a b : List ℕ) (below_a up_to_a below_b up_to_b : ℕ) → All (IsCharacterOf Unicode) a
+    → All (IsCharacterOf Unicode) b
+    → IsTextCount limit a below_a up_to_a → IsTextCount limit b below_b up_to_b → text_cmp a b ≡ Less
+    → up_to_a ≤ below_b
 text_counts_rise limit a b below_a up_to_a below_b up_to_b of_a of_b count_a count_b less =
     ⊎_elim {A = limit < length b} {B = length b ≤ limit}
     (λ past. omega (arith, up_to_all limit a below_a up_to_a of_a count_a, (count_b.long past).0))
     (λ within. short within (first_of (nat_cmp (length a) (length b)) (slice_cmp nat_cmp a b) less))
     (cases_lt limit (length b))
   where
-    short : length b ≤ limit → (nat_cmp (length a) (length b) ≡ Less) ⊎ ((nat_cmp (length a) (length b) ≡ Equal) × (slice_cmp nat_cmp a b ≡ Less)) → up_to_a ≤ below_b
+    short : length b ≤ limit → (nat_cmp (length a) (length b) ≡ Less)
+        ⊎ ((nat_cmp (length a) (length b) ≡ Equal) × (slice_cmp nat_cmp a b ≡ Less)) → up_to_a ≤ below_b
     short within (inl shorter) =
         let lengths = nat_less (length a) (length b) shorter in
         let here = count_a.short (omega arith) in
-        omega (arith, here.0, here.1, (count_b.short within).0, same_length_bound a of_a, shorter_more (length a), shorter_rise (suc (length a)) (length b) (omega arith))
+        omega (
+          arith,
+          here.0,
+          here.1,
+          (count_b.short within).0,
+          same_length_bound a of_a,
+          shorter_more (length a),
+          shorter_rise (suc (length a)) (length b) (omega arith),
+        )
     short within (inr same) =
         let lengths = nat_equal (length a) (length b) same.0 in
         let here = count_a.short (omega arith) in
-        omega (arith, here.0, here.1, (count_b.short within).0, ap shorter_texts lengths, same_length_rise a b of_a of_b lengths same.1)
+        omega (
+          arith,
+          here.0,
+          here.1,
+          (count_b.short within).0,
+          ap shorter_texts lengths,
+          same_length_rise a b of_a of_b lengths same.1,
+        )

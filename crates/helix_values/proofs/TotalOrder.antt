@@ -34,9 +34,11 @@ codes_of : Cell → List ℕ
 codes_of (cell.Text codes) = codes
 codes_of other = []
 
--- the order of cells as a chain of orders: by place, by truth, by number, by text
+-- the order of cells as a chain of orders: by rank, by truth, by number, by text
 chain : Cell → Cell → Ordering
-chain = then_cmp (on rank_of nat_cmp) (then_cmp (on truth_of bool_cmp) (then_cmp (on number_of int_cmp) (on codes_of text_cmp)))
+chain =
+    then_cmp (on rank_of nat_cmp) (then_cmp (on truth_of bool_cmp)
+    (then_cmp (on number_of int_cmp) (on codes_of text_cmp)))
 
 then_equal : (o : Ordering) → o ≡ ordering_then o Equal
 then_equal Less = refl
@@ -56,7 +58,9 @@ pub cell_cmp_total : IsTotalOrder cell_cmp
 unfolding chain
 cell_cmp_total =
     total_by cell_cmp-chain
-    (then_total (on_total rank_of nat_cmp_total) (then_total (on_total truth_of bool_cmp_total) (then_total (on_total number_of int_cmp_total) (on_total codes_of text_cmp_total))))
+    (then_total (on_total rank_of nat_cmp_total)
+    (then_total (on_total truth_of bool_cmp_total)
+    (then_total (on_total number_of int_cmp_total) (on_total codes_of text_cmp_total))))
 
 pub row_cmp_total : IsTotalOrder row_cmp
 row_cmp_total = lists_total cell_cmp_total
@@ -69,7 +73,8 @@ then_second Greater p tied = cc
 
 pub text_cmp-IsAntisymmetric : IsAntisymmetric text_cmp
 text_cmp-IsAntisymmetric a b tied =
-    slice_cmp-IsAntisymmetric nat_cmp-IsAntisymmetric a b (then_second (nat_cmp (length a) (length b)) (slice_cmp nat_cmp a b) tied)
+    slice_cmp-IsAntisymmetric nat_cmp-IsAntisymmetric a b
+    (then_second (nat_cmp (length a) (length b)) (slice_cmp nat_cmp a b) tied)
 
 bool_cmp-IsAntisymmetric : IsAntisymmetric bool_cmp
 bool_cmp-IsAntisymmetric false false tied = refl

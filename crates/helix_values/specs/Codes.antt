@@ -23,7 +23,8 @@ is_cusip_character c = is_capital_or_digit c || list_any (λ s. c == s) (42 ∷ 
 
 -- a digit's own value, 10 to 35 for A to Z, and 36 to 38 for `*`, `@` and `#`
 abbrev pub value_of : ℕ → ℕ
-value_of c = if is_digit c then c - 48 else (if c == 42 then 36 else (if c == 64 then 37 else (if c == 35 then 38 else c - 55)))
+value_of c = if is_digit c then c - 48 else (if c == 42 then 36
+    else (if c == 64 then 37 else (if c == 35 then 38 else c - 55)))
 
 -- the two decimal digits of a number below 100, added
 abbrev pub digit_sum : ℕ → ℕ
@@ -40,7 +41,8 @@ digits_of c = if is_digit c then value_of c ∷ [] else value_of c / 10 ∷ valu
 
 -- two letters, nine letters or digits, one digit
 abbrev pub is_isin_shape : List ℕ → Bool
-is_isin_shape word = list_all is_capital (take 2 word) && list_all is_capital_or_digit (drop 2 word) && list_all is_digit (drop 11 word)
+is_isin_shape word = list_all is_capital (take 2 word) && list_all is_capital_or_digit (drop 2 word)
+    && list_all is_digit (drop 11 word)
 
 -- of the digits of all characters, counted from the last, each second one is doubled
 abbrev pub is_isin : List ℕ → Bool

@@ -60,7 +60,8 @@ values_below class cell.Null = values_of class
 values_below class (cell.Bool truth) = if truth then 1 else 0
 values_below class (cell.Number units) = min (natural (units +ℤ pos (10 ^ 35))) (2 * 10 ^ 35 + 1)
 values_below class (cell.Moment at) = min (natural at) 315537897600000
-values_below class (cell.Text text) = if nat_le (length text) 1000 then shorter_texts (length text) + same_length_below text else shorter_texts 1001
+values_below class (cell.Text text) = if nat_le (length text) 1000
+    then shorter_texts (length text) + same_length_below text else shorter_texts 1001
 
 abbrev pub values_up_to : Class → Cell → ℕ
 values_up_to class cell.Null = values_of class

@@ -71,7 +71,8 @@ cusip_character code is =
 -- the characters of a word that all pass a test
 module _ (test : ℕ → Bool) (in_test : (code : ℕ) → test code ≡ true → IsCharacterOf Unicode code) (word : List ℕ) where
   each : list_all test word ≡ true → All (IsCharacterOf Unicode) word
-  each all = All-weaker (λ code. test code ≡ true) (IsCharacterOf Unicode) in_test word (AllPass-from_list_all test word all)
+  each all = All-weaker (λ code. test code ≡ true) (IsCharacterOf Unicode) in_test word
+      (AllPass-from_list_all test word all)
 
 word_of_isin : (word : List ℕ) → is_isin_shape word ≡ true → All (IsCharacterOf Unicode) word
 word_of_isin word shape =
@@ -80,16 +81,21 @@ word_of_isin word shape =
     (All-append (IsCharacterOf Unicode) (take 2 word) (drop 2 word) (each is_capital capital (take 2 word) letters.0)
     (each is_capital_or_digit letter_or_digit (drop 2 word) letters.1))
 
-code_in_unicode : (code : Code) (word : List ℕ) → IsValidCode code word → (length word ≤ 1000) × All (IsCharacterOf Unicode) word
+code_in_unicode : (code : Code) (word : List ℕ) → IsValidCode code word
+    → (length word ≤ 1000) × All (IsCharacterOf Unicode) word
 code_in_unicode Isin word valid =
     let parts = and_parts _ _ (and_parts _ _ valid).0 in
     (omega (arith, eqb-true (length word) 12 parts.0), word_of_isin word parts.1)
 code_in_unicode Sedol word valid =
-    let parts = and_parts _ _ (and_parts _ _ valid).0 in
-    (omega (arith, eqb-true (length word) 7 parts.0), each is_sedol_character sedol_character word (and_parts _ _ parts.1).0)
+    let parts = and_parts _ _ (and_parts _ _ valid).0 in (
+      omega (arith, eqb-true (length word) 7 parts.0),
+      each is_sedol_character sedol_character word (and_parts _ _ parts.1).0,
+    )
 code_in_unicode Cusip word valid =
-    let parts = and_parts _ _ (and_parts _ _ valid).0 in
-    (omega (arith, eqb-true (length word) 9 parts.0), each is_cusip_character cusip_character word (and_parts _ _ parts.1).0)
+    let parts = and_parts _ _ (and_parts _ _ valid).0 in (
+      omega (arith, eqb-true (length word) 9 parts.0),
+      each is_cusip_character cusip_character word (and_parts _ _ parts.1).0,
+    )
 
 pub in_widest : (k : Kind) (value : Cell) → InUniverse k value → InUniverse (widest_kind (class_of_kind k)) value
 in_widest kind.Boolean (cell.Bool truth) within = within

@@ -54,6 +54,7 @@ pub fn universes_lie_in_the_widest_ones()
 
 /// A mark that no longer admits a value of the widest universe of its class leaves fewer of them.
 pub fn marks_leave_fewer_values()
-    ensures { (class : Class) (m n : Mark) (v : Cell) → IsMarkOf class m → IsMarkOf class n → InUniverse (widest_kind class) v
+    ensures { (class : Class) (m n : Mark) (v : Cell) → IsMarkOf class m → IsMarkOf class n
+        → InUniverse (widest_kind class) v
         → IsAdmitted m v → ¬ IsAdmitted n v → values_left class n < values_left class m }
 {}

@@ -1,10 +1,27 @@
 //! The values of fields: kinds and their universes, cells and rows with their order, and the check
 //! rules of codes.
 //!
+//! ```text
+//! let mut row = RowBuf::open(alloc, 2)?;                    // null, null
+//! row.slot_mut(0).set(CellRef::Number(5));                  // takes no memory
+//! let order = cmp_cell(row.slot(0).view(), CellRef::Null);  // Less: null is last
+//! let valid = in_universe(Kind::Integer, row.slot(0).view());  // false: 5 * 10^-15 is not whole
+//! ```
+//!
 //! A number is kept in whole units of 10^-15, a moment in milliseconds from
-//! 0001-01-01T00:00:00.000, a text as its code points. The definitions are in `specs/`: `Universe`
-//! and `Order` first. Setting a [`Slot`] or a cell of a [`RowBuf`] and comparing take no memory. The
-//! ladders of numbers and moments are those of `helix_ladders`, and can be imported from here too.
+//! 0001-01-01T00:00:00.000, a text as its code points.
+//!
+//! - [`in_universe`] tells the values of a [`Kind`], [`valid`] the words of a [`Code`].
+//! - [`cmp_cell`] and [`cmp_row`] are total orders; a [`Mark`] is a bound from below in that order.
+//! - A [`Slot`] holds a cell without memory, a [`RowBuf`] a row of slots. [`RowBuf::slot_mut`] borrows
+//!   one slot, and the other cells stay.
+//! - `laws`: the universe of each kind lies in the widest one of its class, alphabets hold the smaller
+//!   ones, whole numbers and dates are the values on a level of their ladders, and a mark that admits
+//!   less leaves fewer values.
+//!
+//! A slot has room for 1,000 characters in itself: keep it in an object, not among the locals of a
+//! function. The definitions are in `specs/`: `Universe` and `Order` first. The ladders of numbers and
+//! moments are those of `helix_ladders`, and can be imported from here too.
 #![tactic(auto)]
 
 mod cell;

@@ -9,7 +9,8 @@ returns-in-None g c =
     let least : FitsSigned w128 c.args.window.least = search rules in
     let most : FitsSigned w128 c.args.window.most = search rules in
     let from : FitsSigned w128 c.max-from.result = search rules in
-    least_on _ _ _ _ _ c.requires.from_low (later_max _ _ _ (simp to_z-of_z at c.max-from.ensures.value)) c.in-None.is (simp to_z-of_z at c.first_on.ensures)
+    least_on _ _ _ _ _ c.requires.from_low (later_max _ _ _ (simp to_z-of_z at c.max-from.ensures.value)) c.in-None.is
+    (simp to_z-of_z at c.first_on.ensures)
 
 pub returns-in-Some : goal.returns-in-Some
 returns-in-Some g c =
@@ -17,4 +18,5 @@ returns-in-Some g c =
     let least : FitsSigned w128 c.args.window.least = search rules in
     let most : FitsSigned w128 c.args.window.most = search rules in
     let from : FitsSigned w128 c.max-from.result = search rules in
-    least_on_and_off _ _ _ _ _ c.requires.from_low (later_max _ _ _ (simp to_z-of_z at c.max-from.ensures.value)) _ c.in-Some.is (simp to_z-of_z at c.first_on_and_off.ensures)
+    least_on_and_off _ _ _ _ _ c.requires.from_low (later_max _ _ _ (simp to_z-of_z at c.max-from.ensures.value)) _
+    c.in-Some.is (simp to_z-of_z at c.first_on_and_off.ensures)

@@ -11,7 +11,8 @@ returns-then-not-on g c =
     let most : FitsSigned w128 c.args.most = c.ranges.most in
     let from : FitsSigned w128 c.loop-from.from = search rules in
     let fits : FitsSigned w128 c.in-Some.value = search rules in
-    rw to_z-of_z (found _ _ _ _ _ _ (simp to_z-of_z at c.loop-from.invariant) _ (simp to_z-of_z at c.in-Some.ensures) (λ on. false≢true ((simp to_z-of_z at c.if-not-on.ensures.1) on)))
+    rw to_z-of_z (found _ _ _ _ _ _ (simp to_z-of_z at c.loop-from.invariant) _ (simp to_z-of_z at c.in-Some.ensures)
+    (λ on. false≢true ((simp to_z-of_z at c.if-not-on.ensures.1) on)))
 
 pub loop-from-smaller : goal.loop-from-smaller
 loop-from-smaller g c =
@@ -31,7 +32,8 @@ loop-from-preserved g c =
     let fits : FitsSigned w128 c.in-Some.value = search rules in
     let below : c.in-Some.value <ℤ c.args.most = grind (arith, ints) in
     let next : FitsSigned w128 (c.in-Some.value +ℤ pos 1) = next_fits _ _ below fits most in
-    simp to_z-of_z (searched_after _ _ _ _ _ _ (simp to_z-of_z at c.loop-from.invariant) _ (simp to_z-of_z at c.in-Some.ensures) (simp to_z-of_z at c.if-not-on.ensures.0 refl))
+    simp to_z-of_z (searched_after _ _ _ _ _ _ (simp to_z-of_z at c.loop-from.invariant) _
+    (simp to_z-of_z at c.in-Some.ensures) (simp to_z-of_z at c.if-not-on.ensures.0 refl))
 
 pub returns-then-most-value : goal.returns-then-most-value
 returns-then-most-value g c =
@@ -40,4 +42,5 @@ returns-then-most-value g c =
     let from : FitsSigned w128 c.loop-from.from = search rules in
     let fits : FitsSigned w128 c.in-Some.value = search rules in
     let past : c.args.most ≤ℤ c.in-Some.value = grind (arith, ints) in
-    none_after _ _ _ _ _ _ (simp to_z-of_z at c.loop-from.invariant) _ past (simp to_z-of_z at c.in-Some.ensures) (simp to_z-of_z at c.if-not-on.ensures.0 refl)
+    none_after _ _ _ _ _ _ (simp to_z-of_z at c.loop-from.invariant) _ past (simp to_z-of_z at c.in-Some.ensures)
+    (simp to_z-of_z at c.if-not-on.ensures.0 refl)

@@ -11,8 +11,10 @@ loop-value-preserved g c =
     elim c.if-is_sifted.branch [
       | then-is_sifted+in_ok-push w ↦
           rw (w.kept-is, w.in_ok-push.ensures.items)
-          (simp to_z-of_z (kept_more _ _ _ c.loop-value.value-index (pos 0) c.loop-value-test.true c.loop-value.invariant (simp to_z-of_z at w.if-is_sifted.ensures.0 refl)))
+          (simp to_z-of_z (kept_more _ _ _ c.loop-value.value-index (pos 0) c.loop-value-test.true
+          c.loop-value.invariant (simp to_z-of_z at w.if-is_sifted.ensures.0 refl)))
       | else-is_sifted w ↦
           rw w.kept-is
-          (skipped_more _ _ _ c.loop-value.value-index (pos 0) c.loop-value-test.true c.loop-value.invariant (λ has. false≢true ((simp to_z-of_z at w.if-is_sifted.ensures.1) has)))
+          (skipped_more _ _ _ c.loop-value.value-index (pos 0) c.loop-value-test.true c.loop-value.invariant
+          (λ has. false≢true ((simp to_z-of_z at w.if-is_sifted.ensures.1) has)))
     ]

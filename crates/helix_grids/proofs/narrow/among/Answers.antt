@@ -19,4 +19,7 @@ returns-in-Listed-clause-exact g c =
 pub returns-clause-exact : goal.returns-clause-exact
 returns-clause-exact g c =
     rw c.in-Sifted.is (sifted_among _ _ _ _ _ _ (sorted_alone _ _ c.in_ok-numbers.ensures.exact)
-    (rw (c.as_slice-in-Sifted.ensures.value, c.as_slice-in-Sifted-2.ensures.value) at c.in_ok-members-in-Sifted.ensures))
+    (rw (
+      c.as_slice-in-Sifted.ensures.value,
+      c.as_slice-in-Sifted-2.ensures.value,
+    ) at c.in_ok-members-in-Sifted.ensures))

@@ -21,4 +21,7 @@ pub returns-in_ok-next-in-Sifted-clause-exact : goal.returns-in_ok-next-in-Sifte
 returns-in_ok-next-in-Sifted-clause-exact g c =
     rw c.in-Sifted.is (sifted_apart _ _ _ _ _ _
     (rw c.as_slice-in-Sifted.ensures.value at c.in_ok-others-in-Sifted.ensures)
-    (rw (c.as_slice-in-Sifted-2.ensures.value, c.as_slice-in-Sifted-3.ensures.value) at c.in_ok-excluded-in-Sifted.ensures.exact))
+    (rw (
+      c.as_slice-in-Sifted-2.ensures.value,
+      c.as_slice-in-Sifted-3.ensures.value,
+    ) at c.in_ok-excluded-in-Sifted.ensures.exact))

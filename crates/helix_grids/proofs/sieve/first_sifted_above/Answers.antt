@@ -12,4 +12,5 @@ returns-then-value-window g c =
     let most : FitsSigned w128 c.args.window.most = search rules in
     let below : c.args.value <ℤ c.args.window.most = grind (arith, ints) in
     let next : FitsSigned w128 (c.args.value +ℤ pos 1) = next_fits _ _ below value most in
-    from_next (IsSifted (g.S.Scale.ladder c.args.scale.now) c.args.window c.args.excluded.now) c.args.value _ (simp to_z-of_z at c.first_sifted.ensures)
+    from_next (IsSifted (g.S.Scale.ladder c.args.scale.now) c.args.window c.args.excluded.now) c.args.value _
+    (simp to_z-of_z at c.first_sifted.ensures)

@@ -10,4 +10,5 @@ returns g c =
     let value : FitsSigned w128 c.args.value = c.ranges.value in
     let fits : FitsSigned w128 c.in-Some.first = search rules in
     from_next (IsSifted (g.S.Scale.ladder c.args.scale.now) c.args.window c.args.excluded.now) c.args.value _
-    (first_or_next _ _ _ c.args.next.now (c.args.value +ℤ pos 1) c.in-Some.first _ (simp to_z-of_z at c.in-Some.ensures) c.requires.next (simp to_z-of_z at c.or_next.ensures))
+    (first_or_next _ _ _ c.args.next.now (c.args.value +ℤ pos 1) c.in-Some.first _ (simp to_z-of_z at c.in-Some.ensures)
+    c.requires.next (simp to_z-of_z at c.or_next.ensures))

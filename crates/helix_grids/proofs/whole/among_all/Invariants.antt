@@ -7,5 +7,6 @@ use Rattle.helix_grids.proofs.whole.among_all.Given as goal
 abbrev pub invariant-loop-test : goal.invariant-loop-test
 invariant-loop-test g l = record {
   form : AreInForm (g.S.Scale.ladder l.scale) l.left;
-  exact : (v : ℤ) → HasMember (g.S.Scale.ladder l.scale) l.left v ↔ (HasMember (g.S.Scale.ladder l.scale) l.fn.all v × All (λ test. IsListed test v) (take l.test-index l.tests));
+  exact : (v : ℤ) → HasMember (g.S.Scale.ladder l.scale) l.left v
+      ↔ (HasMember (g.S.Scale.ladder l.scale) l.fn.all v × All (λ test. IsListed test v) (take l.test-index l.tests));
 }

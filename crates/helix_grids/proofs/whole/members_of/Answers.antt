@@ -14,5 +14,10 @@ among_all-requires g c =
 pub returns : goal.returns
 returns g c =
     are_members_of (g.S.Scale.ladder c.args.scale.now) c.args.level c.args.tests.now
-    (record { window = c.window_of-window.result; excluded = c.in_ok-excluded.excluded; next = c.in_ok-next.next }) c.in_ok-numbers.numbers.items c.among_all.result c.window_of-window.ensures.exact c.in_ok-numbers.ensures.exact
+    (record {
+      window = c.window_of-window.result;
+      excluded = c.in_ok-excluded.excluded;
+      next = c.in_ok-next.next;
+    }) c.in_ok-numbers.numbers.items c.among_all.result c.window_of-window.ensures.exact
+    c.in_ok-numbers.ensures.exact
     (rw c.as_slice.ensures.value at c.in_ok-excluded.ensures) c.among_all.ensures.form c.among_all.ensures.exact

@@ -6,5 +6,6 @@ use Rattle.helix_grids.proofs.whole.window_of.Given as goal
 abbrev pub invariant-loop-test : goal.invariant-loop-test
 invariant-loop-test g l = record {
   kept : IsWindowOf (g.S.Scale.ladder l.scale) l.window;
-  exact : (v : ℤ) → IsInWindow (g.S.Scale.ladder l.scale) l.window v ↔ IsBounded (g.S.Scale.ladder l.scale) l.level (take l.test-index l.tests) v;
+  exact : (v : ℤ) → IsInWindow (g.S.Scale.ladder l.scale) l.window v
+      ↔ IsBounded (g.S.Scale.ladder l.scale) l.level (take l.test-index l.tests) v;
 }

@@ -14,8 +14,10 @@ returns-in-Most-clause-exact g c =
 
 pub returns-in-On-clause-exact : goal.returns-in-On-clause-exact
 returns-in-On-clause-exact g c =
-    rw c.in-On.is (λ v. c.with_on.ensures.exact c.args.scale.now v c.requires.window (rw c.in-On.is at c.requires.level))
+    rw c.in-On.is (λ v. c.with_on.ensures.exact c.args.scale.now v c.requires.window
+    (rw c.in-On.is at c.requires.level))
 
 pub returns-in-Off-clause-exact : goal.returns-in-Off-clause-exact
 returns-in-Off-clause-exact g c =
-    rw c.in-Off.is (λ v. c.with_off.ensures.exact c.args.scale.now v c.requires.window (rw c.in-Off.is at c.requires.level))
+    rw c.in-Off.is (λ v. c.with_off.ensures.exact c.args.scale.now v c.requires.window
+    (rw c.in-Off.is at c.requires.level))

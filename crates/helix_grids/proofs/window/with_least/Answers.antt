@@ -9,4 +9,5 @@ returns-clause-exact g c = λ s v.
     let least : FitsSigned w128 c.args.window.least = search rules in
     let most : FitsSigned w128 c.args.window.most = search rules in
     let result : FitsSigned w128 c.max.result = search rules in
-    simp to_z-of_z (exact_least (g.S.Scale.ladder s) c.args.window c.args.bound c.max.result (later_max _ _ _ (simp to_z-of_z at c.max.ensures.value)) v)
+    simp to_z-of_z (exact_least (g.S.Scale.ladder s) c.args.window c.args.bound c.max.result
+    (later_max _ _ _ (simp to_z-of_z at c.max.ensures.value)) v)

@@ -13,24 +13,29 @@ overflow_cast-result c =
 pub returns-clause-date : goal.returns-clause-date
 returns-clause-date c =
     let fits : FitsSigned w16 c.args.date.year = omega (arith, signed_arith, c.args.date.year_in) in
-    (parts_of_date c.args.date _ _ _ c.args.day (ap unsigned_abs (to_z-of_z fits)) c.from.ensures c.from-2.ensures c.requires.number).date
+    (parts_of_date c.args.date _ _ _ c.args.day (ap unsigned_abs (to_z-of_z fits)) c.from.ensures c.from-2.ensures
+    c.requires.number).date
 
 pub returns-clause-number : goal.returns-clause-number
 returns-clause-number c =
     let fits : FitsSigned w16 c.args.date.year = omega (arith, signed_arith, c.args.date.year_in) in
-    (parts_of_date c.args.date _ _ _ c.args.day (ap unsigned_abs (to_z-of_z fits)) c.from.ensures c.from-2.ensures c.requires.number).number
+    (parts_of_date c.args.date _ _ _ c.args.day (ap unsigned_abs (to_z-of_z fits)) c.from.ensures c.from-2.ensures
+    c.requires.number).number
 
 pub returns-clause-year : goal.returns-clause-year
 returns-clause-year c =
     let fits : FitsSigned w16 c.args.date.year = omega (arith, signed_arith, c.args.date.year_in) in
-    (parts_of_date c.args.date _ _ _ c.args.day (ap unsigned_abs (to_z-of_z fits)) c.from.ensures c.from-2.ensures c.requires.number).year
+    (parts_of_date c.args.date _ _ _ c.args.day (ap unsigned_abs (to_z-of_z fits)) c.from.ensures c.from-2.ensures
+    c.requires.number).year
 
 pub returns-clause-month : goal.returns-clause-month
 returns-clause-month c =
     let fits : FitsSigned w16 c.args.date.year = omega (arith, signed_arith, c.args.date.year_in) in
-    (parts_of_date c.args.date _ _ _ c.args.day (ap unsigned_abs (to_z-of_z fits)) c.from.ensures c.from-2.ensures c.requires.number).month
+    (parts_of_date c.args.date _ _ _ c.args.day (ap unsigned_abs (to_z-of_z fits)) c.from.ensures c.from-2.ensures
+    c.requires.number).month
 
 pub returns-clause-day : goal.returns-clause-day
 returns-clause-day c =
     let fits : FitsSigned w16 c.args.date.year = omega (arith, signed_arith, c.args.date.year_in) in
-    (parts_of_date c.args.date _ _ _ c.args.day (ap unsigned_abs (to_z-of_z fits)) c.from.ensures c.from-2.ensures c.requires.number).of_month
+    (parts_of_date c.args.date _ _ _ c.args.day (ap unsigned_abs (to_z-of_z fits)) c.from.ensures c.from-2.ensures
+    c.requires.number).of_month

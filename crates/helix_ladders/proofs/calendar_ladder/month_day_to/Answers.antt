@@ -1,5 +1,5 @@
 use Rattle.std.proofs.Common.{refl}
-use Rattle.helix_ladders.proofs.LadderSteps.{month_start_greatest}
+use Rattle.helix_ladders.proofs.MonthStarts.{month_start_greatest}
 use Rattle.helix_ladders.proofs.calendar_ladder.month_day_to.Goals as goal
 
 pub returns : goal.returns

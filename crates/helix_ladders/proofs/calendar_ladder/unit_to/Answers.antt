@@ -8,4 +8,5 @@ pub returns : goal.returns
 returns c =
     let fits : FitsSigned w128 c.args.to = c.ranges.to in
     let fits_result : FitsSigned w128 c.multiple_to.result = record { sfits = c.multiple_to.type_inv } in
-    rw to_z-of_z (unit_greatest c.args.level c.requires.unit c.args.to _ c.requires.begun c.requires.ends (simp to_z-of_z at c.multiple_to.ensures))
+    rw to_z-of_z (unit_greatest c.args.level c.requires.unit c.args.to _ c.requires.begun c.requires.ends
+    (simp to_z-of_z at c.multiple_to.ensures))

@@ -22,4 +22,8 @@ loop-later-preserved c =
     record { counted = omega (arith, counts c.loop-later.later working); short = omega arith; small = omega arith }
 
 pub returns : goal.returns
-returns c = sym (none_later c.args.count c.args.day days_of_calendar (omega (arith, working_days-le days_of_calendar c.loop-later.later (omega arith))))
+returns c =
+    sym (none_later c.args.count c.args.day days_of_calendar (omega (
+      arith,
+      working_days-le days_of_calendar c.loop-later.later (omega arith),
+    )))

@@ -16,4 +16,7 @@ loop-i-preserved c =
     (sym c.in-Equal.is ∙ c.cmp_field.ensures)
 
 pub returns : goal.returns
-returns c = none_differ _ _ c.loop-i.i (omega arith) (omega (arith, comparable-length c.args.a.now c.args.b.now c.requires)) c.loop-i.invariant
+returns c = none_differ _ _ c.loop-i.i (omega arith) (omega (
+  arith,
+  comparable-length c.args.a.now c.args.b.now c.requires,
+)) c.loop-i.invariant
