@@ -20,17 +20,21 @@ record IsNumeralOf (n : ℕ) (ds : List ℕ) : Type 0 where
   begins : BeginsWell n ds
 
 one_digit : (n : ℕ) → n < 10 → IsNumeralOf n ((48 + n) ∷ [])
-one_digit n small = record { digits = (digit_within (48 + n) (omega arith) (omega arith), tt); value = omega arith; begins = ((λ some is. omega arith), λ h. refl) }
+one_digit n small = record {
+  digits = (digit_within (48 + n) (omega arith) (omega arith), tt);
+  value = omega arith;
+  begins = ((λ some is. omega arith), λ h. refl);
+}
 
 begins_more : (n : ℕ) (ds : List ℕ) (c : ℕ) → 10 ≤ n → BeginsWell (n / 10) ds → BeginsWell n (ds ++ c ∷ [])
 begins_more n [] c large begins = absurd begins
 begins_more n (d ∷ ds) c large begins = ((λ some. begins.0 (omega arith)), λ small. absurd (omega arith))
 
 one_more : (n : ℕ) (ds : List ℕ) → 10 ≤ n → IsNumeralOf (n / 10) ds → IsNumeralOf n (ds ++ (48 + n % 10) ∷ [])
-one_more n ds large front = record {
-  digits = digits_push ds (48 + n % 10) front.digits (digit_within (48 + n % 10) (omega arith) (omega arith));
-  value = from-append 0 ds ((48 + n % 10) ∷ []) ∙ omega (arith, front.value);
-  begins = begins_more n ds (48 + n % 10) large front.begins;
+one_more n ds large prefix = record {
+  digits = digits_push ds (48 + n % 10) prefix.digits (digit_within (48 + n % 10) (omega arith) (omega arith));
+  value = from-append 0 ds ((48 + n % 10) ∷ []) ∙ omega (arith, prefix.value);
+  begins = begins_more n ds (48 + n % 10) large prefix.begins;
 }
 
 numeral : (n : ℕ) → n < 10 ^ 64 → IsNumeralOf n (decimal n)
@@ -59,16 +63,19 @@ last_digits-suc width n = refl
 pub last_digits_are : (width n : ℕ) → AreDigits (last_digits width n)
 unfolding last_digits
 last_digits_are zero n = tt
-last_digits_are (suc width) n = digits_push (last_digits width (n / 10)) (48 + n % 10) (last_digits_are width (n / 10)) (digit_within (48 + n % 10) (omega arith) (omega arith))
+last_digits_are (suc width) n = digits_push (last_digits width (n / 10)) (48 + n % 10) (last_digits_are width (n / 10))
+    (digit_within (48 + n % 10) (omega arith) (omega arith))
 
 -- so many digits add the remainder to what stands before them
 pub last_digits-from : (width x n : ℕ) → digits_from x (last_digits width n) ≡ x * 10 ^ width + n % 10 ^ width
 unfolding last_digits
 last_digits-from zero x n = omega arith
 last_digits-from (suc width) x n =
-    let split : n % (10 ^ width * 10) ≡ (n / 10 % 10 ^ width) * 10 + n % 10 = mod-mul n (some_power width) (omega arith) in
+    let split : n % (10 ^ width * 10) ≡ (n / 10 % 10 ^ width) * 10 + n % 10 = mod-mul n (some_power width) (omega arith)
+    in
     let power : 10 ^ suc width ≡ 10 ^ width * 10 = ap (λ k. 10 ^ k) (omega arith) ∙ pow_more width in
-    from-append x (last_digits width (n / 10)) ((48 + n % 10) ∷ []) ∙ (rw power (omega (arith, split, last_digits-from width x (n / 10))))
+    from-append x (last_digits width (n / 10)) ((48 + n % 10) ∷ [])
+    ∙ (rw power (omega (arith, split, last_digits-from width x (n / 10))))
 
 -- what stands at the end of digits is zeros that were left out
 pub record LeavesZeros (x : ℕ) (cs left : List ℕ) : Type 0 where
@@ -107,6 +114,11 @@ without_zeros-from [] x = record { zeros = 0; lengths = refl; value = omega arit
 without_zeros-from (c ∷ cs) x =
     let rest : LeavesZeros (x * 10 + (c - 48)) cs (without_zeros cs) = without_zeros-from cs (x * 10 + (c - 48)) in
     elim (kept_cases c (without_zeros cs)) [
-      | inl gone ↦ subst (LeavesZeros x (c ∷ cs)) (sym gone.2) (leaves_none x c cs gone.0 (subst (LeavesZeros (x * 10 + (c - 48)) cs) gone.1 rest))
-      | inr stays ↦ subst (LeavesZeros x (c ∷ cs)) (sym stays) (record { zeros = rest.zeros; lengths = omega (arith, rest.lengths); value = rest.value })
+      | inl gone ↦ subst (LeavesZeros x (c ∷ cs)) (sym gone.2)
+          (leaves_none x c cs gone.0 (subst (LeavesZeros (x * 10 + (c - 48)) cs) gone.1 rest))
+      | inr stays ↦ subst (LeavesZeros x (c ∷ cs)) (sym stays) (record {
+        zeros = rest.zeros;
+        lengths = omega (arith, rest.lengths);
+        value = rest.value;
+      })
     ]

@@ -1,5 +1,6 @@
 pub mod DecimalTexts
 pub mod FixedDigits
+pub mod DigitPairs
 pub mod NumberTexts
 pub mod MomentTexts
 pub mod TextLaws

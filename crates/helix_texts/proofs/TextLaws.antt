@@ -7,14 +7,14 @@ use Rattle.helix_values.specs.declared.kind.Kind.TheVariants as kind
 use Rattle.helix_values.specs.declared.cell.Cell.{Cell}
 use Rattle.helix_values.specs.declared.cell.Cell.TheVariants as cell
 use Rattle.helix_values.specs.Class.{class_of, class_of_kind}
-use Rattle.helix_values.specs.Universe.{InUniverse, IsNumber}
+use Rattle.helix_values.specs.Universe.{InUniverse, IsDecimal}
 use Rattle.helix_texts.specs.Texts.{cell_text, truth_text}
 use Rattle.helix_texts.specs.Spelling.{ReadsAs, Spells}
 use Rattle.helix_values.proofs.ClassLaws.{class_of_value}
 use Rattle.helix_texts.proofs.NumberTexts.{number_spells, one_number}
 use Rattle.helix_texts.proofs.MomentTexts.{moment_spells, day_spells, one_moment}
 
-pub number_size : (u : ℤ) → IsNumber u → unsigned_abs u ≤ 10 ^ 35
+pub number_size : (u : ℤ) → IsDecimal u → unsigned_abs u ≤ 10 ^ 35
 number_size (pos n) within = omega (arith, ints, within.1)
 number_size (negsuc n) within = omega (arith, ints, within.0)
 
@@ -48,16 +48,19 @@ one_value t c cell.Null class first second = absurd second
 one_value t c d class first second = cc
 
 pub one : (k : Kind) (t : List ℕ) (c d : Cell) → Spells k t c → Spells k t d → c ≡ d
-one k t c d first second = one_value t c d (class_of_value k c first.within ∙ sym (class_of_value k d second.within)) first.reads second.reads
+one k t c d first second = one_value t c d (class_of_value k c first.within
+    ∙ sym (class_of_value k d second.within)) first.reads second.reads
 
 -- what is read outside of the universe leaves no value of it
-pub no_other_value : (k : Kind) (t : List ℕ) (c d : Cell) → class_of c ≡ Some (class_of_kind k) → ReadsAs t c → (InUniverse k c → ⊥) → Spells k t d → ⊥
+pub no_other_value : (k : Kind) (t : List ℕ) (c d : Cell) → class_of c ≡ Some (class_of_kind k) → ReadsAs t c
+    → (InUniverse k c → ⊥) → Spells k t d → ⊥
 no_other_value k t c d class reads outside spells =
     let same : d ≡ c = one_value t d c (class_of_value k d spells.within ∙ sym class) spells.reads reads in
     outside (subst (InUniverse k) same spells.within)
 
 pub different : (k : Kind) (c d : Cell) → InUniverse k c → InUniverse k d → cell_text k c ≡ cell_text k d → c ≡ d
-different k c d of_c of_d same = one k (cell_text k d) c d (subst (λ t. Spells k t c) same (written k c of_c)) (written k d of_d)
+different k c d of_c of_d same = one k (cell_text k d) c d (subst (λ t. Spells k t c) same (written k c of_c))
+    (written k d of_d)
 
 -- the written form, under another name
 pub written_at : (k : Kind) (t : List ℕ) (c : Cell) → InUniverse k c → t ≡ cell_text k c → Spells k t c

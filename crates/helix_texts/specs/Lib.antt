@@ -1,3 +1,3 @@
 pub mod Texts
 pub mod Spelling
-pub mod Reading
+pub mod Inner

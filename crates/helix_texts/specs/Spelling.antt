@@ -30,7 +30,8 @@ zulu_text false = []
 
 -- hh:mm:ss, then `.` and the digits where there are any, then `Z` where it is wanted
 abbrev pub full_time_text : Time → List ℕ
-full_time_text time = clock_text time.hour time.minute time.second ++ (fraction_text time.fraction ++ zulu_text time.zulu)
+full_time_text time = clock_text time.hour time.minute time.second
+    ++ (fraction_text time.fraction ++ zulu_text time.zulu)
 
 -- one digit of a fraction counts tenths of a second, two hundredths, three thousandths
 abbrev pub thousandths : List ℕ → ℕ

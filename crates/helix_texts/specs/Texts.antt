@@ -7,12 +7,12 @@ use Rattle.helix_values.specs.declared.cell.Cell.{Cell}
 use Rattle.helix_values.specs.declared.cell.Cell.TheVariants as cell
 use Rattle.helix_ladders.specs.Calendar.{year_of, month_of, day_of_month, day_of, millis_of_day}
 
--- the last digits of a number, so many of them
+-- the last digits of a number, `width` of them
 unfoldable pub last_digits : ℕ → ℕ → List ℕ
 last_digits zero n = []
 last_digits (suc width) n = last_digits width (n / 10) ++ (48 + n % 10) ∷ []
 
--- a digit in front of what is left of the digits behind it: a zero with nothing behind it goes
+-- a digit in prefix of what is left of the digits after it: a zero with nothing after it goes
 abbrev pub kept : ℕ → List ℕ → List ℕ
 kept c [] = if c == 48 then [] else c ∷ []
 kept c (d ∷ ds) = c ∷ d ∷ ds
@@ -31,9 +31,10 @@ abbrev pub one : ℕ
 one = 10 ^ 15
 
 -- a minus for a negative number, the whole part, and where the fraction isn't 0 a point and its places
-abbrev pub number_text : ℤ → List ℕ
-number_text units =
-    minus_text (is_negative units) ++ (decimal (unsigned_abs units / one) ++ fraction_text (without_zeros (last_digits 15 (unsigned_abs units % one))))
+abbrev pub units_text : ℤ → List ℕ
+units_text units =
+    minus_text (is_negative units) ++ (decimal (unsigned_abs units / one)
+    ++ fraction_text (without_zeros (last_digits 15 (unsigned_abs units % one))))
 
 -- YYYY-MM-DD
 abbrev pub date_text : ℕ → ℕ → ℕ → List ℕ
@@ -48,7 +49,8 @@ day_text day = date_text (year_of day) (month_of day) (day_of_month day)
 
 -- hh:mm:ss.SSS, of a millisecond of a day
 abbrev pub time_text : ℕ → List ℕ
-time_text millis = clock_text (millis / 3600000) (millis / 60000 % 60) (millis / 1000 % 60) ++ 46 ∷ last_digits 3 (millis % 1000)
+time_text millis = clock_text (millis / 3600000) (millis / 60000 % 60) (millis / 1000 % 60)
+    ++ 46 ∷ last_digits 3 (millis % 1000)
 
 -- a date as its day, a date-time as its day and its time
 abbrev pub moment_text : Kind → ℤ → List ℕ
@@ -63,7 +65,7 @@ truth_text false = codes "false"
 abbrev pub cell_text : Kind → Cell → List ℕ
 cell_text kind cell.Null = []
 cell_text kind (cell.Bool truth) = truth_text truth
-cell_text kind (cell.Number units) = number_text units
+cell_text kind (cell.Number units) = units_text units
 cell_text kind (cell.Moment at) = moment_text kind at
 cell_text kind (cell.Text characters) = characters
 

@@ -12,5 +12,6 @@ ghost use Rattle.helix_texts.specs.Spelling.{Spells};
 pub fn texts_are_read_back()
     ensures written { (k : Kind) (c : Cell) → InUniverse k c → Spells k (cell_text k c) c }
     ensures one { (k : Kind) (t : List ℕ) (c d : Cell) → Spells k t c → Spells k t d → c ≡ d }
-    ensures different { (k : Kind) (c d : Cell) → InUniverse k c → InUniverse k d → cell_text k c ≡ cell_text k d → c ≡ d }
+    ensures different { (k : Kind) (c d : Cell) → InUniverse k c → InUniverse k d → cell_text k c ≡ cell_text k d
+        → c ≡ d }
 {}

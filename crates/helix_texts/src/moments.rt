@@ -2,7 +2,7 @@
 
 ghost use Rattle.std.specs.Prelude.{ℕ, ℤ, ◌≡◌, ◌≢◌, ◌^◌, ◌<◌, ◌≤◌, ◌∷◌, ◌↔◌, Bool, List, length, IsTrue, IfSome, IfNone};
 ghost use Rattle.helix_ladders.specs.Calendar.{IsDate};
-ghost use Rattle.helix_texts.specs.Reading.{IsClock, BeginsWithNumber, BeginsWithPart, BeginsWithThree, BeginsWithDate, TakesZulu, IsTimeEnd, CountsTimeEnd, IsTimeBehind, CountsTime};
+ghost use Rattle.helix_texts.specs.Inner.Reading.{IsClock, BeginsWithNumber, BeginsWithPart, BeginsWithThree, BeginsWithDate, TakesZulu, IsTimeEnd, CountsTimeEnd, IsTimeAfter, CountsTime};
 ghost use Rattle.helix_texts.specs.Spelling.{SpellsMoment, Time};
 ghost use Rattle.helix_texts.specs.Texts.{last_digits};
 
@@ -30,15 +30,16 @@ pub fn moment_of(text: &Text) -> Option<i64>
     if rest.is_empty() {
         return Some(start);
     }
-    match millis_behind(rest) {
+    match millis_after(rest) {
         Some(millis) => Some(start + i64::from(millis)),
         None => None,
     }
 }
 
-/// The date at the front, and what follows it.
+/// The date that codes begin with, and what follows it.
 fn split_date(codes: &[u32]) -> Option<(Date, &[u32])>
-    ensures some { IfSome result (λ found. BeginsWithDate codes.now found.0.year found.0.month found.0.day found.1.now) }
+    ensures some { IfSome result (λ found.
+        BeginsWithDate codes.now found.0.year found.0.month found.0.day found.1.now) }
     ensures none { IfNone result ((y m d : ℕ) (rest : List ℕ) → ¬ BeginsWithDate codes.now y m d rest) }
 {
     let Some((date, rest)) = split_three(codes, 4, 45) else {
@@ -61,10 +62,10 @@ fn is_date(year: u32, month: u32, day: u32) -> bool
 }
 
 /// The milliseconds of the day that `T` and a time count.
-fn millis_behind(codes: &[u32]) -> Option<u32>
+fn millis_after(codes: &[u32]) -> Option<u32>
     ensures some { IfSome result (CountsTime codes.now) }
     ensures short { IfSome result (λ millis. millis < 86400000) }
-    ensures none { IfNone result ((time : Time) → ¬ IsTimeBehind codes.now time) }
+    ensures none { IfNone result ((time : Time) → ¬ IsTimeAfter codes.now time) }
 {
     let Some(text) = split_mark(codes, 84) else {
         return None;
@@ -96,11 +97,11 @@ fn thousandths_of(codes: &[u32]) -> Option<u32>
     ensures short { IfSome result (λ n. n < 1000) }
     ensures none { IfNone result ((fraction : List ℕ) (zulu : Bool) → ¬ IsTimeEnd codes.now fraction zulu) }
 {
-    let front = without_zulu(codes);
-    if front.is_empty() {
+    let prefix = without_zulu(codes);
+    if prefix.is_empty() {
         return Some(0);
     }
-    let Some(digits) = split_mark(front, 46) else {
+    let Some(digits) = split_mark(prefix, 46) else {
         return None;
     };
     if digits.is_empty() || digits.len() > 3 {
@@ -117,15 +118,16 @@ fn without_zulu(codes: &[u32]) -> &[u32]
     ensures { TakesZulu codes.now result.now }
 {
     match codes.split_last() {
-        Some((90, front)) => front,
+        Some((90, prefix)) => prefix,
         _ => codes,
     }
 }
 
-/// Three numbers at the front, with a mark between them, and what follows.
+/// Three numbers that codes begin with, with a mark between them, and what follows.
 fn split_three(codes: &[u32], width: usize, mark: u32) -> Option<(Three, &[u32])>
     requires { width ≤ 4 }
-    ensures some { IfSome result (λ found. BeginsWithThree codes.now width mark found.0.first found.0.second found.0.third found.1.now) }
+    ensures some { IfSome result (λ found. BeginsWithThree codes.now width mark found.0.first found.0.second
+        found.0.third found.1.now) }
     ensures none { IfNone result ((a b c : ℕ) (rest : List ℕ) → ¬ BeginsWithThree codes.now width mark a b c rest) }
 {
     let Some((first, rest)) = split_part(codes, width, mark) else {
@@ -147,22 +149,22 @@ fn split_three(codes: &[u32], width: usize, mark: u32) -> Option<(Three, &[u32])
     ))
 }
 
-/// A number and a mark at the front, and what follows.
+/// A number and a mark that codes begin with, and what follows.
 fn split_part(codes: &[u32], width: usize, mark: u32) -> Option<(u32, &[u32])>
     requires { width ≤ 4 }
     ensures some { IfSome result (λ found. BeginsWithPart codes.now width mark found.0 found.1.now) }
     ensures none { IfNone result ((n : ℕ) (rest : List ℕ) → ¬ BeginsWithPart codes.now width mark n rest) }
 {
-    let Some((number, behind)) = split_number(codes, width) else {
+    let Some((number, after)) = split_number(codes, width) else {
         return None;
     };
-    match split_mark(behind, mark) {
+    match split_mark(after, mark) {
         Some(rest) => Some((number, rest)),
         None => None,
     }
 }
 
-/// The number that the first digits write, so many of them, and what follows.
+/// The number that the first digits write, `width` of them, and what follows.
 fn split_number(codes: &[u32], width: usize) -> Option<(u32, &[u32])>
     requires { width ≤ 4 }
     ensures some { IfSome result (λ found. BeginsWithNumber codes.now width found.0 found.1.now) }
@@ -178,7 +180,7 @@ fn split_number(codes: &[u32], width: usize) -> Option<(u32, &[u32])>
     }
 }
 
-/// What follows a mark at the front.
+/// What follows a mark that codes begin with.
 fn split_mark(codes: &[u32], mark: u32) -> Option<&[u32]>
     ensures some { IfSome result (λ rest. codes.now ≡ mark ∷ rest.now) }
     ensures none { IfNone result ((rest : List ℕ) → codes.now ≢ mark ∷ rest) }

@@ -82,7 +82,7 @@ fn number_of(text: &Text) -> Option<i128>
     }
 }
 
-/// The cell that is lent, owned. A text is that of the cell.
+/// The borrowed cell, owned. A text is that of the cell.
 fn owned(alloc: Global, cell: CellRef<'_>, text: &Text) -> Result<Cell, Memory>
     requires { ReadsAs text.now (cell_of cell) }
     ensures { IfOk result (λ own. own ≡ cell_of cell.entry) }

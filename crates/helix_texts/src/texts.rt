@@ -6,13 +6,14 @@ ghost use Rattle.helix_texts.specs.Texts.{IsSmall, truth_text, time_text, cell_t
 ghost use Rattle.helix_values.specs.Universe.{InUniverse};
 ghost use Rattle.helix_values.specs.View.{cell_of};
 
-use crate::put::{put, put_all, put_day, put_number, put_time};
+use crate::digits::{put, put_all};
+use crate::put::{put_day, put_number, put_time};
 use helix_base::{Memory, Text};
 use helix_ladders::MILLIS_OF_DAY;
 use helix_values::{CellRef, Kind};
 use std::alloc::Global;
 
-/// Puts the written form of a truth value, a number or a moment at the front of a buffer, one byte
+/// Puts the written form of a truth value, a number or a moment at the beginning of a buffer, one byte
 /// a character, and answers how many they are.
 pub fn small_text(kind: Kind, cell: CellRef<'_>, out: &mut [u8; 48]) -> usize
     requires value { InUniverse kind (cell_of cell) }
@@ -51,14 +52,15 @@ pub fn put_moment(out: &mut [u8], kind: Kind, at: i64) -> usize
     let (day, millis) = split_day(at);
     let date = put_day(out, day);
     match kind {
-        Kind::DateTime => put_time_behind(out, date, millis),
+        Kind::DateTime => put_time_after(out, date, millis),
         _ => date,
     }
 }
 
 /// Puts `T` and the time of a millisecond of a day.
-fn put_time_behind(out: &mut [u8], at: usize, millis: u32) -> usize
-    requires { at + 13 ≤ length out.old }
+fn put_time_after(out: &mut [u8], at: usize, millis: u32) -> usize
+    requires room { at + 13 ≤ length out.old }
+    requires millis { millis < millis_of_day }
     ensures end { result ≡ at + 13 }
     ensures text { take result out.new ≡ take at out.old ++ 84 ∷ time_text millis }
 {
@@ -72,6 +74,7 @@ fn split_day(at: i64) -> (u32, u32)
     ensures day { result.0 ≡ day_of at }
     ensures in_calendar { result.0 < days_of_calendar }
     ensures millis { result.1 ≡ unsigned_abs at % millis_of_day }
+    ensures within { result.1 < millis_of_day }
 {
     ((at / MILLIS_OF_DAY) as u32, (at % MILLIS_OF_DAY) as u32)
 }

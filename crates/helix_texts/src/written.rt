@@ -1,8 +1,6 @@
 //! Written forms as texts.
 
 ghost use Rattle.std.specs.Prelude.{◌≡◌, IfOk};
-ghost use Rattle.std.specs.Char.{IsScalar};
-ghost use Rattle.std.specs.List.{All};
 ghost use Rattle.helix_ladders.specs.Calendar.{IsMoment};
 ghost use Rattle.helix_texts.specs.Texts.{IsSmall, cell_text as text_of_cell, moment_text as text_of_moment};
 ghost use Rattle.helix_values.specs.Universe.{InUniverse};
@@ -19,7 +17,7 @@ pub fn cell_text(alloc: Global, kind: Kind, cell: CellRef<'_>) -> Result<Text, M
     ensures { IfOk result (λ text. text ≡ text_of_cell kind (cell_of cell.entry)) }
 {
     match cell {
-        CellRef::Text(codes) => text_of_codes(alloc, codes),
+        CellRef::Text(codes) => Text::from_codes(alloc, codes),
         _ => text_of_small(alloc, kind, cell),
     }
 }
@@ -52,18 +50,6 @@ fn text_of_bytes(alloc: Global, bytes: &[u8]) -> Result<Text, Memory>
     let mut text = Text::new(alloc);
     for byte in bytes {
         text.push(u32::from(*byte))?;
-    }
-    Ok(text)
-}
-
-/// The text of code points.
-fn text_of_codes(alloc: Global, codes: &[u32]) -> Result<Text, Memory>
-    requires { All IsScalar codes.now }
-    ensures { IfOk result (λ text. text ≡ codes.now) }
-{
-    let mut text = Text::new(alloc);
-    for code in codes {
-        text.push(*code)?;
     }
     Ok(text)
 }

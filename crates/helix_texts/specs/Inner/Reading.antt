@@ -10,12 +10,12 @@ use Rattle.helix_texts.specs.Spelling.{Time, IsTime, zulu_text, full_time_text, 
 abbrev pub three_text : ℕ → ℕ → ℕ → ℕ → ℕ → List ℕ
 three_text width mark a b c = last_digits width a ++ mark ∷ (last_digits 2 b ++ mark ∷ last_digits 2 c)
 
--- digits stand at the front, and this number is theirs
+-- digits stand at the prefix, and this number is theirs
 pub record BeginsWithNumber (text : List ℕ) (width n : ℕ) (rest : List ℕ) : Type 0 where
   pub small : n < 10 ^ width
   pub is : text ≡ last_digits width n ++ rest
 
--- the same, with a mark behind the digits
+-- the same, with a mark after the digits
 pub record BeginsWithPart (text : List ℕ) (width mark n : ℕ) (rest : List ℕ) : Type 0 where
   pub small : n < 10 ^ width
   pub is : text ≡ last_digits width n ++ mark ∷ rest
@@ -38,7 +38,7 @@ pub record IsClock (hour minute second : ℕ) : Type 0 where
 
 -- a `Z` is taken from the end, if one is there
 abbrev pub TakesZulu : List ℕ → List ℕ → Type 0
-TakesZulu text front = (text ≡ front ++ 90 ∷ []) ⊎ ((text ≡ front) × ((other : List ℕ) → text ≢ other ++ 90 ∷ []))
+TakesZulu text prefix = (text ≡ prefix ++ 90 ∷ []) ⊎ ((text ≡ prefix) × ((other : List ℕ) → text ≢ other ++ 90 ∷ []))
 
 -- a text is the end of a time: a fraction and `Z`, each where it is wanted
 pub record IsTimeEnd (text fraction : List ℕ) (zulu : Bool) : Type 0 where
@@ -53,11 +53,11 @@ pub record CountsTimeEnd (text : List ℕ) (n : ℕ) : Type 0 where
   pub value : n ≡ thousandths fraction
 
 -- a text is `T` and this time
-pub record IsTimeBehind (text : List ℕ) (time : Time) : Type 0 where
+pub record IsTimeAfter (text : List ℕ) (time : Time) : Type 0 where
   pub of_day : IsTime time
   pub is : text ≡ 84 ∷ full_time_text time
 
 pub record CountsTime (text : List ℕ) (millis : ℕ) : Type 0 where
   pub time : Time
-  pub behind : IsTimeBehind text time
+  pub after : IsTimeAfter text time
   pub value : millis ≡ millis_of_time time
