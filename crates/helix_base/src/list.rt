@@ -37,6 +37,13 @@ impl<T> List<T> {
         }
     }
 
+    /// The list of the items of a `Vec`.
+    pub fn from_vec(items: Vec<T>) -> List<T>
+        ensures { result ≡ items.items }
+    {
+        List { items }
+    }
+
     /// The items in order.
     pub fn as_slice(&self) -> &[T]
         ensures { result.now ≡ self.now }
