@@ -14,6 +14,7 @@ use Rattle.helix_json.specs.Text.{Cuts, SpellsToken, SpellsText}
 abbrev pub max_bytes : ℕ
 max_bytes = 1048576
 
+-- the greatest nesting of lists and objects
 abbrev pub max_depth : ℕ
 max_depth = 64
 
@@ -42,6 +43,7 @@ level_after level (token.CloseList ∷ ts) = level_after (level - 1) ts
 level_after level (token.CloseObject ∷ ts) = level_after (level - 1) ts
 level_after level (t ∷ ts) = level_after level ts
 
+-- the token opens a list or an object
 abbrev pub Opens : Token → Type 0
 Opens token.OpenList = Unit {0}
 Opens token.OpenObject = Unit {0}
@@ -92,6 +94,7 @@ abbrev pub Nowhere : (List Token → Token → List Token → Type 0) → Json �
 Nowhere P value = (before : List Token) (t : Token) (rest : List Token) → tokens value ≡ before ++ t ∷ rest
     → ¬ (P before t rest)
 
+-- the text has at most the maximum length
 abbrev pub IsShort : List ℕ → Type 0
 IsShort bytes = length bytes ≤ max_bytes
 

@@ -7,6 +7,7 @@ abbrev pub IsWhole : List ℕ → Type 0
 IsWhole [] = ⊥
 IsWhole (c ∷ cs) = IsTrue (is_digit c) × AreDigits cs × (c ≡ 48 → cs ≡ [])
 
+-- the sign of an exponent, where one is written
 pub data Sign : Type 0 where
   plus : Sign
   minus : Sign
@@ -17,6 +18,7 @@ pub data Exponent : Type 0 where
   no_exponent : Exponent
   power : ℕ → Sign → List ℕ → Exponent
 
+-- an exponent has its letter and at least one digit
 abbrev pub IsExponent : Exponent → Type 0
 IsExponent no_exponent = Unit {0}
 IsExponent (power mark sign digits) = ((mark ≡ 69) ⊎ (mark ≡ 101)) × (digits ≢ []) × AreDigits digits
@@ -28,11 +30,13 @@ pub record Parts : Type 0 where
   pub fraction : List ℕ
   pub exponent : Exponent
 
+-- the parts keep to the grammar
 pub record AreParts (parts : Parts) : Type 0 where
   pub whole : IsWhole parts.whole
   pub fraction : AreDigits parts.fraction
   pub exponent : IsExponent parts.exponent
 
+-- `-`, where the number begins with one
 abbrev pub minus_text : Bool → List ℕ
 minus_text true = 45 ∷ []
 minus_text false = []
@@ -42,19 +46,23 @@ abbrev pub fraction_text : List ℕ → List ℕ
 fraction_text [] = []
 fraction_text (c ∷ cs) = 46 ∷ c ∷ cs
 
+-- `+`, `-` or nothing
 abbrev pub sign_text : Sign → List ℕ
 sign_text plus = 43 ∷ []
 sign_text minus = 45 ∷ []
 sign_text no_sign = []
 
+-- the letter, the sign and the digits of an exponent
 abbrev pub exponent_text : Exponent → List ℕ
 exponent_text no_exponent = []
 exponent_text (power mark sign digits) = mark ∷ sign_text sign ++ digits
 
+-- the text of the parts, one after the other
 abbrev pub number_text : Parts → List ℕ
 number_text parts = minus_text parts.negative
     ++ (parts.whole ++ (fraction_text parts.fraction ++ exponent_text parts.exponent))
 
+-- the text is that of these parts
 pub record SpellsNumber (text : List ℕ) (parts : Parts) : Type 0 where
   pub are : AreParts parts
   pub is : text ≡ number_text parts
@@ -68,6 +76,7 @@ abbrev pub digits_from : ℕ → List ℕ → ℕ
 digits_from n [] = n
 digits_from n (c ∷ cs) = digits_from (n * 10 + (c - 48)) cs
 
+-- the number that digits write in base ten
 abbrev pub digits_value : List ℕ → ℕ
 digits_value digits = digits_from 0 digits
 
@@ -90,6 +99,7 @@ abbrev pub HasUnits : Parts → ℕ → Type 0
 HasUnits parts n = digits_value (parts.whole ++ parts.fraction) * 10 ^ (15 + power_up parts.exponent)
     ≡ n * 10 ^ (length parts.fraction + power_down parts.exponent)
 
+-- a number with its sign
 abbrev pub signed : Bool → ℕ → ℤ
 signed true n = neg_ℤ (pos n)
 signed false n = pos n

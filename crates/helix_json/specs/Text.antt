@@ -11,6 +11,7 @@ use Rattle.helix_json.specs.Tokens.{tokens}
 abbrev pub is_blank : ℕ → Bool
 is_blank c = c == 32 || c == 9 || c == 10 || c == 13
 
+-- each character is a blank
 abbrev pub AreBlanks : List ℕ → Type 0
 AreBlanks [] = Unit {0}
 AreBlanks (c ∷ cs) = IsTrue (is_blank c) × AreBlanks cs
@@ -28,9 +29,11 @@ SpellsUnit text unit = (a b c d : ℕ) × (text ≡ 92 ∷ 117 ∷ a ∷ b ∷ c
     × (digit_value a < 16) × (digit_value b < 16) × (digit_value c < 16) × (digit_value d < 16)
     × (unit ≡ ((digit_value a * 16 + digit_value b) * 16 + digit_value c) * 16 + digit_value d)
 
+-- the first half of a surrogate pair
 abbrev pub IsHigh : ℕ → Type 0
 IsHigh unit = (0xD800 ≤ unit) × (unit < 0xDC00)
 
+-- the second half of a surrogate pair
 abbrev pub IsLow : ℕ → Type 0
 IsLow unit = (0xDC00 ≤ unit) × (unit < 0xE000)
 
@@ -41,6 +44,7 @@ pub data How : Type 0 where
   by_unit : How
   by_pair : How
 
+-- the text is the character, written in this way
 abbrev pub SpellsAs : How → List ℕ → ℕ → Type 0
 SpellsAs itself text c = (text ≡ c ∷ []) × (32 ≤ c) × (c ≢ 34) × (c ≢ 92)
 SpellsAs by_letter text c = (letter : ℕ) × (text ≡ 92 ∷ letter ∷ []) × (escaped letter ≡ Some c)
@@ -55,6 +59,7 @@ SpellsChars text [] = text ≡ []
 SpellsChars text (c ∷ cs) = (how : How) × (first rest : List ℕ) × (text ≡ first ++ rest) × SpellsAs how first c
     × SpellsChars rest cs
 
+-- the text is the token
 abbrev pub SpellsToken : List ℕ → Token → Type 0
 SpellsToken text token.OpenList = text ≡ codes "["
 SpellsToken text token.CloseList = text ≡ codes "]"

@@ -16,10 +16,12 @@ abbrev mutual
   HasNumbers (json.List' shape items) = ItemsHaveNumbers items
   HasNumbers (json.Object' shape members) = MembersHaveNumbers members
 
+  -- the same of the items of a list
   pub ItemsHaveNumbers : {n : _} → Row_of-Json n → Type 0
   ItemsHaveNumbers json.end_of-Json = Unit {0}
   ItemsHaveNumbers (json.more_of-Json item items) = HasNumbers item × ItemsHaveNumbers items
 
+  -- the same of the members of an object
   pub MembersHaveNumbers : {n : _} → Row_of-Member n → Type 0
   MembersHaveNumbers json.end_of-Member = Unit {0}
   MembersHaveNumbers (json.more_of-Member key value members) = HasNumbers value × MembersHaveNumbers members
@@ -39,10 +41,12 @@ abbrev mutual
   HasNoRepeatedKey (json.List' shape items) = ItemsHaveNoRepeatedKey items
   HasNoRepeatedKey (json.Object' shape members) = MembersHaveNoRepeatedKey members
 
+  -- the same of the items of a list
   pub ItemsHaveNoRepeatedKey : {n : _} → Row_of-Json n → Type 0
   ItemsHaveNoRepeatedKey json.end_of-Json = Unit {0}
   ItemsHaveNoRepeatedKey (json.more_of-Json item items) = HasNoRepeatedKey item × ItemsHaveNoRepeatedKey items
 
+  -- no two of the members have one key, and the same of their values
   pub MembersHaveNoRepeatedKey : {n : _} → Row_of-Member n → Type 0
   MembersHaveNoRepeatedKey json.end_of-Member = Unit {0}
   MembersHaveNoRepeatedKey (json.more_of-Member key value members) =
@@ -58,10 +62,12 @@ abbrev mutual
   nesting (json.List' shape items) = items_nesting items + 1
   nesting (json.Object' shape members) = members_nesting members + 1
 
+  -- the greatest nesting of the items, and 0 of none
   pub items_nesting : {n : _} → Row_of-Json n → ℕ
   items_nesting json.end_of-Json = 0
   items_nesting (json.more_of-Json item items) = max (nesting item) (items_nesting items)
 
+  -- the greatest nesting of the members' values, and 0 of none
   pub members_nesting : {n : _} → Row_of-Member n → ℕ
   members_nesting json.end_of-Member = 0
   members_nesting (json.more_of-Member key value members) = max (nesting value) (members_nesting members)

@@ -16,6 +16,7 @@ last_below test (suc n) = if test n then Some n else last_below test n
 abbrev pub is_leap_year : ℕ → Bool
 is_leap_year year = (year % 4 == 0) && (not (year % 100 == 0) || (year % 400 == 0))
 
+-- the length of a year
 abbrev pub days_of_year : ℕ → ℕ
 days_of_year year = if is_leap_year year then 366 else 365
 
@@ -65,6 +66,7 @@ month_of day = unwrap_or (last_below (λ month. nat_le (month_start (year_of day
 abbrev pub day_of_month : ℕ → ℕ
 day_of_month day = day - month_start (year_of day) (month_of day) + 1
 
+-- the milliseconds of a day
 abbrev pub millis_of_day : ℕ
 millis_of_day = 86400000
 

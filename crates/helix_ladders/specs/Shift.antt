@@ -26,6 +26,7 @@ day_in_month index day =
     let month = index % 12 + 1 in
     day_number year month (min day (days_of_month year month))
 
+-- the midnight of that day, the months counted from January of the year 1, or what is outside of the calendar
 abbrev pub midnight_in_month : ℤ → ℕ → ℤ
 midnight_in_month (pos index) day = if nat_lt index (12 * 9999) then midnight (day_in_month index day) else after_all
 midnight_in_month (negsuc below) day = before_all

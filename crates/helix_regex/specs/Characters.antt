@@ -5,9 +5,11 @@ use Rattle.helix_base.specs.Alphabet.{is_character_of}
 use Rattle.helix_base.specs.Digits.{is_digit}
 use Rattle.helix_base.specs.declared.alphabet.Alphabet.TheVariants.{Unicode}
 
+-- a character of the Unicode alphabet
 abbrev pub is_character : ℕ → Bool
 is_character c = is_character_of Unicode c
 
+-- the character is one of a list
 abbrev pub is_among : List ℕ → ℕ → Bool
 is_among marks c = list_any (λ mark. c == mark) marks
 

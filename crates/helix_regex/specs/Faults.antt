@@ -8,6 +8,7 @@ use Rattle.helix_regex.specs.Characters.{is_character}
 use Rattle.helix_regex.specs.Pattern.{Item, range, Single, class, exactly, at_least, between, Quant, once, times, Pattern, end, bar, caret, dollar, one, group, item_text, single_text, quant_text, opening, pattern_text, Writes}
 use Rattle.helix_regex.specs.Meaning.{code_of, number_of, has_caret, has_dollar}
 
+-- each code is a character of the alphabet
 abbrev pub AreCharacters : List ℕ → Type 0
 AreCharacters [] = Unit {0}
 AreCharacters (c ∷ cs) = IsTrue (is_character c) × AreCharacters cs
@@ -30,6 +31,7 @@ offset_if test at = if test then at ∷ [] else []
 abbrev pub piece_text : Single → Quant → List ℕ
 piece_text s q = single_text s ++ quant_text q
 
+-- a group as it is written, with its quantifier
 abbrev pub group_text : Bool → Pattern → Quant → List ℕ
 group_text bare inner q = opening bare ++ (pattern_text inner ++ 41 ∷ quant_text q)
 
@@ -65,11 +67,13 @@ reversed_ranges at (range e f ∷ items) =
     offset_if (nat_lt (code_of f) (code_of e)) at ++ reversed_ranges (at + length (item_text (range e f))) items
 reversed_ranges at (item ∷ items) = reversed_ranges (at + length (item_text item)) items
 
+-- offset of each reversed range of the items of a class
 abbrev pub ranges_in : ℕ → Single → List ℕ
 ranges_in at (class true items) = reversed_ranges (at + 2) items
 ranges_in at (class false items) = reversed_ranges (at + 1) items
 ranges_in at _ = []
 
+-- offsets at which the rule on ranges is broken
 abbrev pub bad_ranges : ℕ → Pattern → List ℕ
 bad_ranges at end = []
 bad_ranges at (bar p) = bad_ranges (at + 1) p
@@ -124,6 +128,7 @@ depth (dollar p) = depth p
 depth (one s q p) = depth p
 depth (group bare inner q p) = max (depth inner + 1) (depth p)
 
+-- the pattern has too many positions, or its groups are nested too deep
 abbrev pub is_too_large : Pattern → Bool
 is_too_large pattern = nat_lt 5000 (positions pattern) || nat_lt 64 (depth pattern)
 
@@ -132,11 +137,13 @@ abbrev pub first_of : List ℕ → Option ℕ
 first_of [] = None
 first_of (at ∷ offsets) = Some at
 
+-- the lesser of two offsets, where there are any
 abbrev pub lesser : Option ℕ → Option ℕ → Option ℕ
 lesser None b = b
 lesser (Some x) None = Some x
 lesser (Some x) (Some y) = Some (min x y)
 
+-- the least offset of a list, where there is one
 abbrev pub least_of : List ℕ → Option ℕ
 least_of [] = None
 least_of (at ∷ offsets) = lesser (Some at) (least_of offsets)

@@ -8,10 +8,12 @@ use Rattle.helix_expr.specs.declared.regex.Regex.{Regex}
 use Rattle.helix_regex.specs.Characters.{is_character, set_has}
 use Rattle.helix_regex.specs.Pattern.{End, plain, escaped, Item, single, range, set_item, dash, Single, literal, dot, escape, set, class, Count, star, plus, question, exactly, at_least, between, Quant, once, times, Pattern, end, bar, caret, dollar, one, group, Writes}
 
+-- the character that an end of a range names
 abbrev pub code_of : End → ℕ
 code_of (plain c) = c
 code_of (escaped c) = c
 
+-- the character is one of an item's
 abbrev pub item_has : Item → ℕ → Bool
 item_has (single e) c = c == code_of e
 item_has (range e f) c = is_character c && (nat_le (code_of e) c && nat_le c (code_of f))
@@ -43,6 +45,7 @@ abbrev pub number_after : ℕ → List ℕ → ℕ
 number_after prefix [] = prefix
 number_after prefix (digit ∷ digits) = number_after (prefix * 10 + (digit - 48)) digits
 
+-- the number that the digits of a count write
 abbrev pub number_of : List ℕ → ℕ
 number_of digits = number_after 0 digits
 
@@ -55,6 +58,7 @@ counted (exactly digits) e = Repeat e (number_of digits) (Some (number_of digits
 counted (at_least digits) e = Repeat e (number_of digits) None
 counted (between digits others) e = Repeat e (number_of digits) (Some (number_of others))
 
+-- an expression with its quantifier
 abbrev pub quantified : Quant → Expr → Expr
 quantified once e = e
 quantified (times count lazy) e = counted count e
@@ -75,12 +79,15 @@ pub record Parts : Type 0 where
   pub pieces : List Expr
   pub others : List Expr
 
+-- pieces as one expression: none is the empty word, one is itself, more are a sequence
 abbrev pub together : Parts → Expr
 together parts = any_of (in_sequence parts.pieces) parts.others
 
+-- a choice with one more part in front
 abbrev pub after_bar : Parts → Parts
 after_bar parts = record { pieces = []; others = in_sequence parts.pieces ∷ parts.others }
 
+-- one more piece in front of the first part
 abbrev pub with_piece : Expr → Parts → Parts
 with_piece e parts = record { pieces = e ∷ parts.pieces; others = parts.others }
 
@@ -105,6 +112,7 @@ has_caret (dollar p) = has_caret p
 has_caret (one s q p) = has_caret p
 has_caret (group bare inner q p) = has_caret inner || has_caret p
 
+-- the pattern has a `$`
 abbrev pub has_dollar : Pattern → Bool
 has_dollar end = false
 has_dollar (bar p) = has_dollar p

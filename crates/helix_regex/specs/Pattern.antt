@@ -56,16 +56,19 @@ pub data Pattern : Type 0 where
   one : Single → Quant → Pattern → Pattern
   group : Bool → Pattern → Quant → Pattern → Pattern
 
+-- an end of a range: the character itself, or escaped
 abbrev pub end_text : End → List ℕ
 end_text (plain c) = c ∷ []
 end_text (escaped c) = 92 ∷ c ∷ []
 
+-- an item of a class as it is written
 abbrev pub item_text : Item → List ℕ
 item_text (single e) = end_text e
 item_text (range e f) = end_text e ++ 45 ∷ end_text f
 item_text (set_item letter) = 92 ∷ letter ∷ []
 item_text dash = 45 ∷ []
 
+-- the items of a class as they are written
 abbrev pub items_text : List Item → List ℕ
 items_text [] = []
 items_text (item ∷ items) = item_text item ++ items_text items
@@ -75,6 +78,7 @@ abbrev pub class_text : Bool → List Item → List ℕ
 class_text true items = 94 ∷ (items_text items ++ 93 ∷ [])
 class_text false items = items_text items ++ 93 ∷ []
 
+-- a literal, a dot, an escape or a class as it is written
 abbrev pub single_text : Single → List ℕ
 single_text (literal c) = c ∷ []
 single_text dot = 46 ∷ []
@@ -82,6 +86,7 @@ single_text (escape c) = 92 ∷ c ∷ []
 single_text (set letter) = 92 ∷ letter ∷ []
 single_text (class excluded items) = 91 ∷ class_text excluded items
 
+-- a count between braces as it is written
 abbrev pub count_text : Count → List ℕ
 count_text star = 42 ∷ []
 count_text plus = 43 ∷ []
@@ -90,15 +95,18 @@ count_text (exactly digits) = 123 ∷ (digits ++ 125 ∷ [])
 count_text (at_least digits) = 123 ∷ (digits ++ 44 ∷ 125 ∷ [])
 count_text (between digits others) = 123 ∷ (digits ++ 44 ∷ (others ++ 125 ∷ []))
 
+-- a quantifier as it is written, with the `?` that says nothing
 abbrev pub quant_text : Quant → List ℕ
 quant_text once = []
 quant_text (times count true) = count_text count ++ 63 ∷ []
 quant_text (times count false) = count_text count
 
+-- the beginning of a group: `(` or `(?:`
 abbrev pub opening : Bool → List ℕ
 opening true = codes "(?:"
 opening false = codes "("
 
+-- the text of a pattern
 abbrev pub pattern_text : Pattern → List ℕ
 pattern_text end = []
 pattern_text (bar p) = 124 ∷ pattern_text p
@@ -111,6 +119,7 @@ pattern_text (group bare inner q p) = opening bare ++ (pattern_text inner ++ 41 
 abbrev pub IsNumeral : List ℕ → Type 0
 IsNumeral digits = (digits ≢ []) × AreDigits digits
 
+-- an end of a range keeps to the grammar
 abbrev pub FitsEnd : End → Type 0
 FitsEnd (plain c) = IsTrue (is_class_char c)
 FitsEnd (escaped c) = IsTrue (is_punct c)
@@ -133,12 +142,14 @@ abbrev pub BeginsWithCaret : List ℕ → Type 0
 BeginsWithCaret [] = ⊥
 BeginsWithCaret (c ∷ cs) = c ≡ 94
 
+-- a class keeps to the grammar
 pub record FitsClass (excluded : Bool) (items : List Item) : Type 0 where
   pub some : items ≢ []
   pub fit : FitItems true items
   pub no_caret : excluded ≡ false → ¬ (BeginsWithCaret (items_text items))
   pub apart : IsTrue (parts_ampersands 91 (class_text excluded items))
 
+-- a literal, a dot, an escape or a class keeps to the grammar
 abbrev pub FitsSingle : Single → Type 0
 FitsSingle (literal c) = IsTrue (is_literal c)
 FitsSingle dot = Unit {0}
@@ -146,12 +157,14 @@ FitsSingle (escape c) = IsTrue (is_punct c)
 FitsSingle (set letter) = IsTrue (is_set_letter letter)
 FitsSingle (class excluded items) = FitsClass excluded items
 
+-- a count keeps to the grammar
 abbrev pub FitsCount : Count → Type 0
 FitsCount (exactly digits) = IsNumeral digits
 FitsCount (at_least digits) = IsNumeral digits
 FitsCount (between digits others) = IsNumeral digits × IsNumeral others
 FitsCount _ = Unit {0}
 
+-- a quantifier keeps to the grammar
 abbrev pub FitsQuant : Quant → Type 0
 FitsQuant once = Unit {0}
 FitsQuant (times count lazy) = FitsCount count

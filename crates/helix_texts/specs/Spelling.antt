@@ -17,6 +17,7 @@ pub record Time : Type 0 where
   pub fraction : List ℕ
   pub zulu : Bool
 
+-- hours, minutes and seconds in range, with at most three places
 pub record IsTime (time : Time) : Type 0 where
   pub hour : time.hour < 24
   pub minute : time.minute < 60
@@ -24,6 +25,7 @@ pub record IsTime (time : Time) : Type 0 where
   pub fraction : AreDigits time.fraction
   pub places : length time.fraction ≤ 3
 
+-- `Z`, where it is wanted
 abbrev pub zulu_text : Bool → List ℕ
 zulu_text true = 90 ∷ []
 zulu_text false = []
@@ -37,6 +39,7 @@ full_time_text time = clock_text time.hour time.minute time.second
 abbrev pub thousandths : List ℕ → ℕ
 thousandths fraction = digits_value fraction * 10 ^ (3 - length fraction)
 
+-- the milliseconds since midnight
 abbrev pub millis_of_time : Time → ℕ
 millis_of_time time = ((time.hour * 60 + time.minute) * 60 + time.second) * 1000 + thousandths time.fraction
 

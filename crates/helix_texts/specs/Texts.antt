@@ -22,6 +22,7 @@ abbrev pub without_zeros : List ℕ → List ℕ
 without_zeros [] = []
 without_zeros (c ∷ cs) = kept c (without_zeros cs)
 
+-- the number is below 0
 abbrev pub is_negative : ℤ → Bool
 is_negative (pos n) = false
 is_negative (negsuc n) = true
@@ -44,6 +45,7 @@ date_text year month day = last_digits 4 year ++ 45 ∷ (last_digits 2 month ++ 
 abbrev pub clock_text : ℕ → ℕ → ℕ → List ℕ
 clock_text hour minute second = last_digits 2 hour ++ 58 ∷ (last_digits 2 minute ++ 58 ∷ last_digits 2 second)
 
+-- YYYY-MM-DD of a day's number
 abbrev pub day_text : ℕ → List ℕ
 day_text day = date_text (year_of day) (month_of day) (day_of_month day)
 
@@ -57,6 +59,7 @@ abbrev pub moment_text : Kind → ℤ → List ℕ
 moment_text kind.DateTime at = day_text (day_of at) ++ 84 ∷ time_text (unsigned_abs at % millis_of_day)
 moment_text other at = day_text (day_of at)
 
+-- `true` or `false`
 abbrev pub truth_text : Bool → List ℕ
 truth_text true = codes "true"
 truth_text false = codes "false"

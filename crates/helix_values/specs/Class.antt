@@ -5,6 +5,7 @@ use Rattle.helix_values.specs.declared.kind.Kind.TheVariants as kind
 use Rattle.helix_values.specs.declared.cell.Cell.{Cell}
 use Rattle.helix_values.specs.declared.cell.Cell.TheVariants as cell
 
+-- truth values, numbers, texts, moments
 pub data Class : Type 0 where
   booleans : Class
   numbers : Class
@@ -44,6 +45,7 @@ are_comparable (cell.Moment a) (cell.Moment b) = true
 are_comparable (cell.Text a) (cell.Text b) = true
 are_comparable a b = false
 
+-- the same, as a fact
 abbrev pub AreComparable : Cell → Cell → Type 0
 AreComparable a b = IsTrue (are_comparable a b)
 

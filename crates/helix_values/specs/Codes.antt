@@ -49,6 +49,7 @@ abbrev pub is_isin : List ℕ → Bool
 is_isin word =
     (length word == 12) && is_isin_shape word && (doubled_sum false (reverse (flat_map digits_of word)) % 10 == 0)
 
+-- the weight of each character of a SEDOL
 abbrev pub sedol_weights : List ℕ
 sedol_weights = 1 ∷ 3 ∷ 1 ∷ 7 ∷ 3 ∷ 9 ∷ 1 ∷ []
 
@@ -74,5 +75,6 @@ is_valid_code Isin word = is_isin word
 is_valid_code Sedol word = is_sedol word
 is_valid_code Cusip word = is_cusip word
 
+-- the same, as a fact
 abbrev pub IsValidCode : Code → List ℕ → Type 0
 IsValidCode code word = IsTrue (is_valid_code code word)

@@ -29,6 +29,7 @@ codes_below (range ∷ ranges) code = (min code (range.1 + 1) - range.0) + codes
 abbrev pub characters : ℕ
 characters = 1111999
 
+-- how many characters of the alphabet are below a code
 abbrev pub characters_below : ℕ → ℕ
 characters_below code = codes_below (ranges_of Unicode) code
 
@@ -63,6 +64,7 @@ values_below class (cell.Moment at) = min (natural at) 315537897600000
 values_below class (cell.Text text) = if nat_le (length text) 1000
     then shorter_texts (length text) + same_length_below text else shorter_texts 1001
 
+-- how many of them are not above a cell
 abbrev pub values_up_to : Class → Cell → ℕ
 values_up_to class cell.Null = values_of class
 values_up_to class (cell.Bool truth) = if truth then 2 else 1
@@ -81,6 +83,7 @@ abbrev pub IsMarkBound : Class → Cell → Type 0
 IsMarkBound class (cell.Text text) = (class ≡ strings) × All (IsCharacterOf Unicode) text
 IsMarkBound class other = IsNullOr class other
 
+-- a mark whose bound, if any, is null or a value of the class
 abbrev pub IsMarkOf : Class → Mark → Type 0
 IsMarkOf class Start = Unit {0}
 IsMarkOf class (At bound) = IsMarkBound class (cell_of bound)

@@ -28,6 +28,7 @@ cell_cmp (cell.Moment a) (cell.Moment b) = int_cmp a b
 cell_cmp (cell.Text a) (cell.Text b) = text_cmp a b
 cell_cmp a b = nat_cmp (rank_of a) (rank_of b)
 
+-- the first cell comes before the second
 abbrev pub CellLess : Cell → Cell → Type 0
 CellLess a b = cell_cmp a b ≡ Less
 
@@ -35,5 +36,6 @@ CellLess a b = cell_cmp a b ≡ Less
 abbrev pub row_cmp : List Cell → List Cell → Ordering
 row_cmp a b = slice_cmp cell_cmp a b
 
+-- the first row comes before the second
 abbrev pub RowLess : List Cell → List Cell → Type 0
 RowLess a b = row_cmp a b ≡ Less
