@@ -132,7 +132,7 @@ depth (group bare inner q p) = max (depth inner + 1) (depth p)
 abbrev pub is_too_large : Pattern → Bool
 is_too_large pattern = nat_lt 5000 (positions pattern) || nat_lt 64 (depth pattern)
 
--- the first of some offsets, and the least
+-- the first of some offsets
 abbrev pub first_of : List ℕ → Option ℕ
 first_of [] = None
 first_of (at ∷ offsets) = Some at

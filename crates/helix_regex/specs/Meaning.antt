@@ -79,15 +79,15 @@ pub record Parts : Type 0 where
   pub pieces : List Expr
   pub others : List Expr
 
--- pieces as one expression: none is the empty word, one is itself, more are a sequence
+-- the parts as one expression: a sequence, or a choice of the sequences between bars
 abbrev pub together : Parts → Expr
 together parts = any_of (in_sequence parts.pieces) parts.others
 
--- a choice with one more part in front
+-- the parts from a bar on: the pieces after it are a sequence of their own
 abbrev pub after_bar : Parts → Parts
 after_bar parts = record { pieces = []; others = in_sequence parts.pieces ∷ parts.others }
 
--- one more piece in front of the first part
+-- one more first piece
 abbrev pub with_piece : Expr → Parts → Parts
 with_piece e parts = record { pieces = e ∷ parts.pieces; others = parts.others }
 
@@ -103,7 +103,7 @@ HasParts (one s q p) parts = (ranges : List (ℕ × ℕ)) × (rest : Parts) × A
 HasParts (group bare inner q p) parts = (within rest : Parts) × HasParts inner within × HasParts p rest
     × (parts ≡ with_piece (quantified q (together within)) rest)
 
--- an anchor of the one kind, and of the other, anywhere
+-- the pattern has a `^`
 abbrev pub has_caret : Pattern → Bool
 has_caret end = false
 has_caret (bar p) = has_caret p

@@ -57,7 +57,7 @@ sedol_weights = 1 ∷ 3 ∷ 1 ∷ 7 ∷ 3 ∷ 9 ∷ 1 ∷ []
 abbrev pub is_sedol_shape : List ℕ → Bool
 is_sedol_shape word = list_all is_sedol_character word && list_all is_digit (drop 6 word)
 
--- the products of the weights and the values of the characters, added
+-- seven characters whose weighted values, added, are a multiple of 10
 abbrev pub is_sedol : List ℕ → Bool
 is_sedol word = (length word == 7) && is_sedol_shape word && (weighted_sum sedol_weights (map value_of word) % 10 == 0)
 
