@@ -1,4 +1,4 @@
-//! The want of memory.
+//! The error of memory that ran out.
 
 use std::alloc::{AllocError, AllocFailed};
 use std::error::Error;

@@ -29,7 +29,8 @@ abbrev pub written : DiskState → List ℕ → FileMap
 written disk bytes = appended disk.files (unwrap_or disk.output []) bytes
 
 -- the named file is opened at its first byte, and an earlier input closed
-pub record BeginsRead {T E : Type 0} (old : DiskState) (name : List ℕ) (result : Result T E) (new : DiskState) : Type 0 where
+pub record BeginsRead {T E : Type 0} (old : DiskState) (name : List ℕ) (result : Result T E)
+    (new : DiskState) : Type 0 where
   pub told : new.told ≡ old.told
   pub files : new.files ≡ old.files
   pub output : new.output ≡ old.output
@@ -40,7 +41,8 @@ pub record BeginsRead {T E : Type 0} (old : DiskState) (name : List ℕ) (result
   pub closed : OnErr result (new.input ≡ None)
 
 -- a prefix of the buffer is filled with the next bytes, and nothing is read only where nothing is left or no room is
-pub record ReadsSome {E : Type 0} (old : DiskState) (buffer : List ℕ) (result : Result ℕ E) (new : DiskState) : Type 0 where
+pub record ReadsSome {E : Type 0} (old : DiskState) (buffer : List ℕ) (result : Result ℕ E)
+    (new : DiskState) : Type 0 where
   pub told : new.told ≡ old.told
   pub files : new.files ≡ old.files
   pub output : new.output ≡ old.output
@@ -67,7 +69,8 @@ pub record BeginsWrite {T E : Type 0} (old : DiskState) (name : List ℕ) (repla
   pub failed : OnErr result (new.files ≡ old.files)
 
 -- a prefix of the bytes is appended to the open output; where there are any, at least one is
-pub record WritesSome {E : Type 0} (old : DiskState) (bytes : List ℕ) (result : Result ℕ E) (new : DiskState) : Type 0 where
+pub record WritesSome {E : Type 0} (old : DiskState) (bytes : List ℕ) (result : Result ℕ E)
+    (new : DiskState) : Type 0 where
   pub told : new.told ≡ old.told
   pub read_faults : new.read_faults ≡ old.read_faults
   pub write_faults : Counts result false old.write_faults new.write_faults

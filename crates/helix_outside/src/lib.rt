@@ -8,11 +8,12 @@
 //! disk.file("o.csv")                          // Some(b"1,2"[..taken])
 //! ```
 //!
-//! What is promised of each call of a [`Disk`] and a [`Console`] is one record: what it does, what a failure leaves, and
-//! that a failure is counted, once (`specs/Disk.antt`, `specs/Console.antt`, `specs/Count.antt`). A disk may tell what
-//! its files hold, or not; files are a map from names to bytes (`specs/Files.antt`).
+//! What is promised of each call of a [`Disk`] and a [`Console`] is one record: what it does, what a failure leaves,
+//! and that a failure is counted, once (`specs/Disk.antt`, `specs/Console.antt`, `specs/Count.antt`). A disk may tell
+//! what its files hold, or not; files are a map from names to bytes (`specs/Files.antt`).
 //!
-//! - [`MemoryDisk`] and [`MemoryConsole`] tell everything. A call whose number they are given fails and changes nothing.
+//! - [`MemoryDisk`] and [`MemoryConsole`] tell everything. A call whose number they are given fails and changes
+//!   nothing.
 //! - [`SteadyDisk`] and [`SteadyConsole`] never fail, and keep nothing of what is written.
 //!
 //! What a call costs is no clause: [`Files`] are a list, so looking a name up takes time in proportion to their number.

@@ -23,7 +23,7 @@ depth_of s = length (frames_of s)
 abbrev pub At : ScannerState → ℕ → State → Type 0
 At m d s = (scanner_state_of s ≡ m) × (depth_of s ≡ d)
 
--- what a character does to a state is what it does to a mode, inside of so many groups
+-- what a character does to a state is what it does to a scanner state, at that depth of groups
 abbrev pub Agrees : Option State → Advance → ℕ → Type 0
 Agrees (Some s) (advance.Stay m) d = At m d s
 Agrees (Some s) (advance.Open m) d = At m (suc d) s

@@ -36,7 +36,7 @@ class_tokens at (class_last n is) = items_read at n is
 class_tokens at (class_escape n is) = items_read at n is
 class_tokens at (class_far n is e) = items_read at n is
 
--- what a lexer keeps of an item that it is in, where so many characters are read
+-- what a lexer keeps of an item that it is in, after these characters
 abbrev pub ClassKept : InClass → Lexer → ℕ → Type 0
 ClassKept (class_one n is e) l i = (l.first ≡ code_of e) × (l.at + length (end_text e) ≡ i)
 ClassKept (class_dash n is e) l i = (l.first ≡ code_of e) × (l.at + length (end_text e) + 1 ≡ i)
@@ -50,7 +50,7 @@ ClassLexes refuse l at i ts = Unit {0}
 ClassLexes (go k) l at i ts = ClassKept k l i × (class_tokens at k ≡ ts)
 ClassLexes (done n is) l at i ts = items_read at n is ++ token.ClassEnd ∷ [] ≡ ts
 
--- where an item stands
+-- where an item is
 item_place : (at : ℕ) (n : Bool) (is : List Item)
     → items_at at n + length (items_text is) ≡ at + 1 + length (caret_text n ++ items_text is)
 item_place at true is = omega (arith, length-append (caret_text true) (items_text is))
@@ -132,7 +132,7 @@ range_read at n is e f first place a b = items_push at n is (range e f)
     ∙ (ap (λ x. items_read at n is ++ token.Range x (code_of f) (items_at at n + length (items_text is)) ∷ []) (sym a)
     ∙ ap (λ x. items_read at n is ++ token.Range first (code_of f) x ∷ []) (sym b))
 
--- where the first end of a range stands
+-- where the first end of a range is
 first_place : (at : ℕ) (n : Bool) (is : List Item) (t : List ℕ) (place i : ℕ) → place + length t ≡ i
     → i ≡ at + 1 + length (caret_text n ++ (items_text is ++ t)) → place ≡ items_at at n + length (items_text is)
 first_place at n is t place i e f =

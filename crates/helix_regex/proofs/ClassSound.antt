@@ -70,7 +70,7 @@ abbrev pub caret_text : Bool → List ℕ
 caret_text true = 94 ∷ []
 caret_text false = []
 
--- what stands after the `[`
+-- what is after the `[`
 abbrev pub class_so_far : InClass → List ℕ
 class_so_far class_opened = []
 class_so_far class_first = 94 ∷ []
@@ -81,7 +81,7 @@ class_so_far (class_last n is) = caret_text n ++ (items_text is ++ 45 ∷ [])
 class_so_far (class_escape n is) = caret_text n ++ (items_text is ++ 92 ∷ [])
 class_so_far (class_far n is e) = caret_text n ++ (items_text is ++ (end_text e ++ 45 ∷ 92 ∷ []))
 
--- what a move leaves, where a text stands after the `[`
+-- what a move leaves, where a text is after the `[`
 abbrev pub Moved : ClassMove → List ℕ → Type 0
 Moved refuse t = Unit {0}
 Moved (go k) t = ClassFine k × (class_so_far k ≡ t)

@@ -29,7 +29,7 @@ state_tokens (escaping b fs) = body fs b
 state_tokens (counting k a b fs) = body fs (append b (piece a once))
 state_tokens (in_class k before b fs) = body fs b ++ token.ClassStart ∷ class_tokens (size fs b) k
 
--- what a lexer keeps of a state after so many characters
+-- what a lexer keeps of a state after the characters read
 abbrev pub Numbers : Counting → Lexer → Type 0
 Numbers count_opened l = Unit {0}
 Numbers (count_least ds) l = l.least ≡ capped ds
@@ -142,7 +142,7 @@ escape_lexes b fs escape_is.Itself c j l = (tt, body-append fs b (piece (alone (
 escape_lexes b fs escape_is.Set c j l = (tt, body-append fs b (piece (alone (set c)) once))
 escape_lexes b fs escape_is.Other c j l = tt
 
--- where the mark of a count stands
+-- where the `{` of a count is
 pub four : (f b a k : List ℕ) → f ++ (b ++ (a ++ k)) ≡ ((f ++ b) ++ a) ++ k
 four f b a k = simp append_assoc
 

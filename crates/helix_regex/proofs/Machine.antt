@@ -46,7 +46,7 @@ settled opened b = b
 settled (atom a) b = append b (piece a once)
 settled (repeated a count) b = append b (piece a (times count false))
 
--- an open group: what stands before it, and whether it begins with `(?:`
+-- an open group: what is before it, and whether it begins with `(?:`
 abbrev pub Frame : Type 0
 Frame = Pattern × Bool
 

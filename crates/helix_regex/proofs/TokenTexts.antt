@@ -74,12 +74,12 @@ piece-tokens (grouped bare inner) count lazy at =
     ap (λ t. token.Open ∷ t) (sym (append_assoc (tokens (at + length (opening bare)) inner) (token.Close ∷ [])
     (count_token (at + length (atom_text (grouped bare inner))) count ∷ [])))
 
--- the tokens of what stands before a group
+-- the tokens of what is before a group
 abbrev pub frames_tokens : List Frame → List Token
 frames_tokens [] = []
 frames_tokens ((b, bare) ∷ fs) = frames_tokens fs ++ (tokens (length (frames_text fs)) b ++ token.Open ∷ [])
 
--- and of what stands in the innermost
+-- and of what is in the innermost
 abbrev pub body : List Frame → Pattern → List Token
 body fs b = frames_tokens fs ++ tokens (length (frames_text fs)) b
 

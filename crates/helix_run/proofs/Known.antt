@@ -23,7 +23,8 @@ pub record SameDisk (old new : DiskState) : Type 0 where
   pub read_faults : new.read_faults ≡ old.read_faults
 
 -- the text of an accepted profile was to be written
-pub record KnownWrite (words : List (List ℕ)) (old : DiskState) (result : Result (Unit {0}) Failed) (new : DiskState) : Type 0 where
+pub record KnownWrite (words : List (List ℕ)) (old : DiskState) (result : Result (Unit {0}) Failed)
+    (new : DiskState) : Type 0 where
   pub names : Names
   pub field : Field
   pub rows : List (List Flag)

@@ -27,7 +27,8 @@ pub record DiskUnfailed (before after : Environment) : Type 0 where
   pub write : after.disk.write_faults ≤ before.disk.write_faults
 
 -- a run goes by the script of its words and files, as far as the console tells what it shows
-pub record FollowsScript (words : List (List ℕ)) (before : Environment) (status : Status) (after : Environment) : Type 0 where
+pub record FollowsScript (words : List (List ℕ)) (before : Environment) (status : Status)
+    (after : Environment) : Type 0 where
   pub text : List ℕ
   pub script : Script words before.disk.files status after.disk.files text
   pub shown : IsTrue before.console.told → after.console.text ≡ before.console.text ++ text

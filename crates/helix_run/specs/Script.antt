@@ -23,13 +23,15 @@ pub record HasField (words : List (List ℕ)) (files : FileMap) (names : Names) 
   pub reads : ReadsProfile bytes field
 
 -- how a run ends: with a status, the files that it leaves, and one line
-pub record Ends (status : Status) (after : FileMap) (text : List ℕ) (answer : Status) (left : FileMap) (line : List ℕ) : Type 0 where
+pub record Ends (status : Status) (after : FileMap) (text : List ℕ) (answer : Status) (left : FileMap)
+    (line : List ℕ) : Type 0 where
   pub status_is : status ≡ answer
   pub files_are : after ≡ left
   pub text_is : text ≡ line_text line
 
 -- the words and the files at entry lead to this status, these files after and this text on the console
-pub data Script (words : List (List ℕ)) (files : FileMap) (status : Status) (after : FileMap) (text : List ℕ) : Type 0 where
+pub data Script (words : List (List ℕ)) (files : FileMap) (status : Status) (after : FileMap)
+    (text : List ℕ) : Type 0 where
   -- the words give no order
   no_order : order_of words ≡ None → Ends status after text Usage files usage_line
       → Script words files status after text

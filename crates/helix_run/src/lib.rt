@@ -1,4 +1,5 @@
-//! A run of helix: it reads the words of a command line and a profile file, and writes the rows that satisfy the profile.
+//! A run of helix: it reads the words of a command line and a profile file, and writes the rows that satisfy the
+//! profile.
 //!
 //! ```text
 //! let words = [.. "--profile-file", "p.json", "--output-path", "o.csv" ..];
@@ -7,16 +8,16 @@
 //! ```
 //!
 //! What is promised of [`run`], each a clause:
-//! - where neither disk nor console fails, status, files and console text are those of the script (`specs/Script.antt`):
-//!   the answer list of the profile (`specs/Rows.antt`) as CSV (`specs/Output.antt`);
+//! - where neither disk nor console fails, status, files and console text are those of the script
+//!   (`specs/Script.antt`): the answer list of the profile (`specs/Rows.antt`) as CSV (`specs/Output.antt`);
 //! - each status has its cause, and comes where that cause holds (`specs/Causes.antt`);
 //! - whatever fails, the files are as before, or the output holds a prefix of its text, and nothing that was there is
 //!   overwritten (`specs/Left.antt`).
 //!
 //! [`run_steady`] is a run over a disk and a console that never fail. Only memory that runs out is in no cause.
 //!
-//! So far a profile is one boolean field without constraints (`specs/Profile.antt`), and the words are the two names that
-//! every run needs (`specs/Words.antt`).
+//! So far a profile is one boolean field without constraints (`specs/Profile.antt`), and the words are the two names
+//! that every run needs (`specs/Words.antt`).
 #![tactic(auto)]
 
 mod csv;

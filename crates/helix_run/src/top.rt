@@ -35,7 +35,8 @@ pub fn run<D: Disk, C: Console>(
 
     // Each status has its cause, and comes where that cause holds.
     ensures cause { Cause (map string_bytes words.now)
-        (environment (D.state disk.old) (C.screen console.old)) result (environment (D.state disk.new) (C.screen console.new)) }
+        (environment (D.state disk.old) (C.screen console.old)) result
+        (environment (D.state disk.new) (C.screen console.new)) }
     ensures usage_comes { order_of (map string_bytes words.now) ≡ None → result ≢ Status.WantOfMemory
         → result ≡ Status.Usage }
     ensures refusal_comes { IsTrue (D.state disk.old).told

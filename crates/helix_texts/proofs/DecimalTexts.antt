@@ -66,7 +66,7 @@ last_digits_are zero n = tt
 last_digits_are (suc width) n = digits_push (last_digits width (n / 10)) (48 + n % 10) (last_digits_are width (n / 10))
     (digit_within (48 + n % 10) (omega arith) (omega arith))
 
--- so many digits add the remainder to what stands before them
+-- the last digits add the remainder to what is before them
 pub last_digits-from : (width x n : ℕ) → digits_from x (last_digits width n) ≡ x * 10 ^ width + n % 10 ^ width
 unfolding last_digits
 last_digits-from zero x n = omega arith
@@ -77,7 +77,7 @@ last_digits-from (suc width) x n =
     from-append x (last_digits width (n / 10)) ((48 + n % 10) ∷ [])
     ∙ (rw power (omega (arith, split, last_digits-from width x (n / 10))))
 
--- what stands at the end of digits is zeros that were left out
+-- what is at the end of digits is zeros that were left out
 pub record LeavesZeros (x : ℕ) (cs left : List ℕ) : Type 0 where
   pub zeros : ℕ
   pub lengths : length cs ≡ length left + zeros

@@ -72,39 +72,39 @@ rest_more number rest done is =
     ∙ ap (λ k. number / 10 ^ k) (omega arith))
 
 -- the step of a loop that puts the two last digits of what is left
-pub pair_more : (list front : List ℕ) (number rest done end first second left : ℕ) → rest ≡ number / 10 ^ done →
-    take end list ≡ take (end - done) front ++ last_digits done number → done + 2 ≤ end → end ≤ length front →
+pub pair_more : (list given : List ℕ) (number rest done end first second left : ℕ) → rest ≡ number / 10 ^ done →
+    take end list ≡ take (end - done) given ++ last_digits done number → done + 2 ≤ end → end ≤ length given →
     first ≡ end - 1 - done → second ≡ end - 2 - done → left ≡ second →
     take end (set (set list first (48 + rest % 100 % 10)) second (48 + rest % 100 / 10))
-    ≡ take left front ++ last_digits (done + 2) number
-pair_more list front number rest done end first second left is text more within at_first at_second same =
+    ≡ take left given ++ last_digits (done + 2) number
+pair_more list given number rest done end first second left is text more within at_first at_second same =
     let ones : rest % 100 % 10 ≡ rest % 10 = omega arith in
     let tens : rest % 100 / 10 ≡ rest / 10 % 10 = omega arith in
     let one : take end (set list first (48 + rest % 10))
-    ≡ take (end - (done + 1)) front ++ last_digits (done + 1) number =
-    digit_step list front number rest done end first (end - (done + 1)) is text (omega arith) (omega arith)
+    ≡ take (end - (done + 1)) given ++ last_digits (done + 1) number =
+    digit_step list given number rest done end first (end - (done + 1)) is text (omega arith) (omega arith)
     (omega arith) (omega arith) in
     let two : take end (set (set list first (48 + rest % 10)) second (48 + rest / 10 % 10))
-    ≡ take left front ++ last_digits (done + 1 + 1) number =
-    digit_step (set list first (48 + rest % 10)) front number (rest / 10) (done + 1) end second left
+    ≡ take left given ++ last_digits (done + 1 + 1) number =
+    digit_step (set list first (48 + rest % 10)) given number (rest / 10) (done + 1) end second left
     (next_rest number rest done is) one (omega arith) (omega arith) (omega arith) same in
     ap (λ d. take end (set (set list first (48 + d)) second (48 + rest % 100 / 10))) ones
     ∙ (ap (λ d. take end (set (set list first (48 + rest % 10)) second (48 + d))) tens
-    ∙ (two ∙ ap (λ k. take left front ++ last_digits k number) (omega arith)))
+    ∙ (two ∙ ap (λ k. take left given ++ last_digits k number) (omega arith)))
 
 -- the last digit, where their number is odd
-pub last_put : (list front : List ℕ) (number rest done end at width : ℕ) → rest ≡ number / 10 ^ done →
-    take end list ≡ take (end - done) front ++ last_digits done number → end ≡ at + width → done + 1 ≡ width
-    → end ≤ length front →
-    take end (set list at (48 + rest % 10)) ≡ take at front ++ last_digits width number
-last_put list front number rest done end at width is text whole last within =
-    digit_step list front number rest done end at at is text (omega arith) (omega arith) (omega arith) (omega arith)
-    ∙ ap (λ k. take at front ++ last_digits k number) last
+pub last_put : (list given : List ℕ) (number rest done end at width : ℕ) → rest ≡ number / 10 ^ done →
+    take end list ≡ take (end - done) given ++ last_digits done number → end ≡ at + width → done + 1 ≡ width
+    → end ≤ length given →
+    take end (set list at (48 + rest % 10)) ≡ take at given ++ last_digits width number
+last_put list given number rest done end at width is text whole last within =
+    digit_step list given number rest done end at at is text (omega arith) (omega arith) (omega arith) (omega arith)
+    ∙ ap (λ k. take at given ++ last_digits k number) last
 
-pub digits_done : (list front : List ℕ) (number done end at width : ℕ) →
-    take end list ≡ take (end - done) front ++ last_digits done number → end ≡ at + width → done ≡ width →
-    take end list ≡ take at front ++ last_digits width number
-digits_done list front number done end at width text whole same =
+pub digits_done : (list given : List ℕ) (number done end at width : ℕ) →
+    take end list ≡ take (end - done) given ++ last_digits done number → end ≡ at + width → done ≡ width →
+    take end list ≡ take at given ++ last_digits width number
+digits_done list given number done end at width text whole same =
     let begin : end - done ≡ at = omega arith in
-    text ∙ (ap (λ k. take k front ++ last_digits done number) begin
-    ∙ ap (λ k. take at front ++ last_digits k number) same)
+    text ∙ (ap (λ k. take k given ++ last_digits done number) begin
+    ∙ ap (λ k. take at given ++ last_digits k number) same)

@@ -77,7 +77,7 @@ zeros_left_out (suc zeros) places n within multiple =
     ∙ (zeros_left_out zeros (places - 1) (n / 10) (omega arith) (omega (arith, split))
     ∙ sym (zero_left_out places n (omega arith) (omega (arith, split)))))
 
--- a multiple of a power of ten that has so many digits has more of them than the power's zeros
+-- a multiple of a power of ten has more digits than the power has zeros
 more_places : (zeros places n : ℕ) → 0 < n → n % 10 ^ zeros ≡ 0 → n < 10 ^ places → zeros < places
 more_places zeros places n some multiple below =
     ⊎_elim {A = zeros < places} {B = places ≤ zeros} (λ more. more)

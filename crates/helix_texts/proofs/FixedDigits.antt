@@ -1,4 +1,4 @@
--- Numbers that are written in so many digits.
+-- Numbers that are written in a fixed number of digits.
 use Rattle.std.proofs.Common.{◌≡◌, ℕ, zero, suc, ◌+◌, ◌-◌, ◌*◌, ◌/◌, ◌%◌, ◌^◌, ◌<◌, List, [], ◌∷◌, ◌++◌, length, length-append, append_assoc, add-one, refl, sym, ap, ◌∙◌, arith}
 use Rattle.std.proofs.Math.Nat.{mod-eq_of_lt}
 use Rattle.std.proofs.Math.ListN.{set, take}
@@ -47,7 +47,7 @@ same_numbers width m n b d small within same =
     ∙ sym (length-last_digits width n)) same in
     (last_digits_same width m n small within parts.0, parts.1)
 
--- one digit more stands in prefix
+-- one digit more at the start
 next_digit : (width n : ℕ) → n / 10 / 10 ^ width ≡ n / 10 ^ suc width
 next_digit width n =
     let power : 10 * 10 ^ width ≡ 10 ^ suc width = omega (arith, pow_more width, ap (λ k. 10 ^ k) (add-one width)) in
@@ -60,7 +60,7 @@ last_digits-first (suc width) n =
     ap (λ l. l ++ (48 + n % 10) ∷ []) (last_digits-first width (n / 10))
     ∙ ap (λ k. (48 + k % 10) ∷ (last_digits width (n / 10) ++ (48 + n % 10) ∷ [])) (next_digit width n)
 
--- a digit that is put in prefix of those that stand at the end of a list
+-- a digit that is put before those at the end of a list
 pub digit_before : (list prefix digits : List ℕ) (end place c : ℕ) → take end list ≡ take (place + 1) prefix ++ digits
     → place < end → place < length prefix
     → take end (set list place c) ≡ take place prefix ++ c ∷ digits

@@ -25,7 +25,7 @@ pub some_length : (l : List ℕ) → (length l == 0) ≡ false → 0 < length l
 some_length [] some = cc
 some_length (c ∷ l) some = omega arith
 
--- the numbers found are no date: then no date stands there
+-- the numbers found are no date: then there is no date
 pub no_date : (codes : List ℕ) (a b c y m d : ℕ) (rest rest₂ : List ℕ) → BeginsWithThree codes 4 45 a b c rest
     → (IsDate a b c → ⊥) → BeginsWithDate codes y m d rest₂ → ⊥
 no_date codes a b c y m d rest rest₂ found none begins =
@@ -71,7 +71,7 @@ no_point_there text prefix [] zulu takes some none end = some (end_prefix text p
 no_point_there text prefix (c ∷ cs) zulu takes some none end =
     none (c ∷ cs) (end_prefix text prefix (c ∷ cs) zulu takes end)
 
--- after the point stand the digits of the fraction
+-- after the point are the digits of the fraction
 pub digits_there : (text prefix digits fraction : List ℕ) (zulu : Bool) → TakesZulu text prefix → prefix ≡ 46 ∷ digits
     → IsTimeEnd text fraction zulu → (digits ≡ fraction) × (0 < length digits)
 digits_there text prefix digits [] zulu takes point end =

@@ -12,8 +12,7 @@ repeats least (Some most) = most
 repeats least None = max least 1
 
 -- the positions of tokens, where those before each open group are listed, the innermost first, and those of the last
--- piece
--- stand apart
+-- piece are kept apart
 abbrev pub total : List ℕ → ℕ → ℕ → List Token → ℕ
 total outer sum last [] = cap (sum + last)
 total outer sum last (token.Literal c ∷ ts) = total outer (cap (sum + last)) 1 ts

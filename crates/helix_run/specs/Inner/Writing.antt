@@ -6,7 +6,8 @@ use Rattle.helix_outside.specs.Files.{FileMap}
 use Rattle.helix_outside.specs.Disk.{DiskState, is_taken, written}
 
 -- writing to the open output: all bytes are appended, or a prefix of them where the count of write faults rose
-pub record PutsAll {T E : Type 0} (old : DiskState) (bytes : List ℕ) (result : Result T E) (new : DiskState) : Type 0 where
+pub record PutsAll {T E : Type 0} (old : DiskState) (bytes : List ℕ) (result : Result T E)
+    (new : DiskState) : Type 0 where
   pub told : new.told ≡ old.told
   pub read_faults : new.read_faults ≡ old.read_faults
   pub output : new.output ≡ old.output
@@ -19,7 +20,8 @@ abbrev pub HoldsPart : FileMap → List ℕ → List ℕ → FileMap → Type 0
 HoldsPart old name text new = (new ≡ old) ⊎ ((n : ℕ) × (n ≤ length text) × (new ≡ insert old name (take n text)))
 
 -- a new file holds the text; where that fails it was there already, or the count of write faults rose
-pub record WritesFile {T E : Type 0} (old : DiskState) (name text : List ℕ) (result : Result T E) (new : DiskState) : Type 0 where
+pub record WritesFile {T E : Type 0} (old : DiskState) (name text : List ℕ) (result : Result T E)
+    (new : DiskState) : Type 0 where
   pub told : new.told ≡ old.told
   pub read_faults : new.read_faults ≡ old.read_faults
   pub write_faults : Counts result (is_taken old name false) old.write_faults new.write_faults

@@ -3,7 +3,7 @@
 ghost use Rattle.helix_outside.specs.DiskInMemory.{state_of};
 
 use super::ending::{expect, run_on};
-use super::{FLAG, WORDS};
+use super::{flag, words};
 use crate::{Status, run, run_steady};
 use helix_outside::{
     Calls, Disk, Failed, Files, MemoryConsole, MemoryDisk, SteadyConsole, SteadyDisk,
@@ -13,7 +13,7 @@ use std::test::Fail;
 #[test]
 fn ends_as_told_where_a_file_or_a_call_is_missing(rt: HostRuntime) -> Result<(), Fail> {
     let whole = "\"flag\"\nfalse\ntrue\n\n";
-    let missing = run_on(rt.alloc(), &WORDS, &[], 0, 0)?;
+    let missing = run_on(rt.alloc(), &words(), &[], 0, 0)?;
     expect(
         &rt,
         &missing,
@@ -24,8 +24,8 @@ fn ends_as_told_where_a_file_or_a_call_is_missing(rt: HostRuntime) -> Result<(),
     );
     let there = run_on(
         rt.alloc(),
-        &WORDS,
-        &[("p.json", FLAG), ("o.csv", "old")],
+        &words(),
+        &[("p.json", flag()), ("o.csv", "old")],
         0,
         0,
     )?;
@@ -47,9 +47,9 @@ fn ends_as_told_where_a_file_or_a_call_is_missing(rt: HostRuntime) -> Result<(),
         (7, Status::Done, "done: 3 rows\n", Some(whole)),
     ];
     for (call, status, text, output) in cases {
-        let ending = run_on(rt.alloc(), &WORDS, &[("p.json", FLAG)], call, 0)?;
+        let ending = run_on(rt.alloc(), &words(), &[("p.json", flag())], call, 0)?;
         expect(&rt, &ending, status, text, output, "a failing call");
-        assert_eq!(rt; ending.disk.file("p.json"), Some(FLAG.as_bytes()));
+        assert_eq!(rt; ending.disk.file("p.json"), Some(flag().as_bytes()));
         let faults = (ending.disk.read_faults(), ending.disk.write_faults());
         assert_eq!(rt;
             faults,
@@ -57,7 +57,7 @@ fn ends_as_told_where_a_file_or_a_call_is_missing(rt: HostRuntime) -> Result<(),
             "call {call}"
         );
     }
-    let unshown = run_on(rt.alloc(), &WORDS, &[("p.json", FLAG)], 0, 1)?;
+    let unshown = run_on(rt.alloc(), &words(), &[("p.json", flag())], 0, 1)?;
     expect(
         &rt,
         &unshown,
@@ -112,18 +112,18 @@ impl Disk for Pieces {
 
 #[test]
 fn reads_and_writes_in_pieces(rt: HostRuntime) -> Result<(), Fail> {
-    let mut words = Vec::new(rt.alloc());
-    for word in WORDS {
-        words.push(String::from_str(rt.alloc(), word)?)?;
+    let mut given = Vec::new(rt.alloc());
+    for word in words() {
+        given.push(String::from_str(rt.alloc(), word)?)?;
     }
     let mut files = Files::new(rt.alloc());
-    files.put("p.json", FLAG.as_bytes())?;
+    files.put("p.json", flag().as_bytes())?;
     let mut disk = Pieces {
         disk: MemoryDisk::open(files, Calls::new(rt.alloc())),
     };
     let mut console = MemoryConsole::open(Calls::new(rt.alloc()));
     assert_eq!(rt;
-        run(rt.alloc(), &words, &mut disk, &mut console),
+        run(rt.alloc(), &given, &mut disk, &mut console),
         Status::Done
     );
     assert_eq!(rt;
@@ -138,12 +138,12 @@ fn reads_and_writes_in_pieces(rt: HostRuntime) -> Result<(), Fail> {
 #[test]
 fn never_fails_on_a_steady_environment(rt: HostRuntime) -> Result<(), Fail> {
     for (profile, status, written) in [
-        (FLAG, Status::Done, 19),
+        (flag(), Status::Done, 19),
         ("{}", Status::ProfileRefused, 0),
     ] {
-        let mut words = Vec::new(rt.alloc());
-        for word in WORDS {
-            words.push(String::from_str(rt.alloc(), word)?)?;
+        let mut given = Vec::new(rt.alloc());
+        for word in words() {
+            given.push(String::from_str(rt.alloc(), word)?)?;
         }
         let mut files = Files::new(rt.alloc());
         files.put("p.json", profile.as_bytes())?;
@@ -151,7 +151,7 @@ fn never_fails_on_a_steady_environment(rt: HostRuntime) -> Result<(), Fail> {
         let mut disk = SteadyDisk::open(files);
         let mut console = SteadyConsole::open();
         assert_eq!(rt;
-            run_steady(rt.alloc(), &words, &mut disk, &mut console),
+            run_steady(rt.alloc(), &given, &mut disk, &mut console),
             status
         );
         assert_eq!(rt; disk.written(), written);

@@ -6,11 +6,11 @@ use Rattle.helix_ladders.specs.Calendar.{IsDate}
 use Rattle.helix_texts.specs.Texts.{last_digits, date_text}
 use Rattle.helix_texts.specs.Spelling.{Time, IsTime, zulu_text, full_time_text, thousandths, millis_of_time}
 
--- three numbers with a mark between them: the first of so many digits, the others of two
+-- three numbers with a mark between them: the first of `width` digits, the others of two
 abbrev pub three_text : ℕ → ℕ → ℕ → ℕ → ℕ → List ℕ
 three_text width mark a b c = last_digits width a ++ mark ∷ (last_digits 2 b ++ mark ∷ last_digits 2 c)
 
--- digits stand at the prefix, and this number is theirs
+-- the text begins with digits, and this number is theirs
 pub record BeginsWithNumber (text : List ℕ) (width n : ℕ) (rest : List ℕ) : Type 0 where
   pub small : n < 10 ^ width
   pub is : text ≡ last_digits width n ++ rest
