@@ -33,7 +33,7 @@ no_prefix expr word cut all none (prefix, rest, split, matches, bound) =
     none (length prefix) (omega (arith, all, ap length split, length-append prefix rest))
     (subst (Matches expr) (sym (ap (take (length prefix)) split ∙ take-append_seam prefix rest)) matches)
 
--- the slice of a word from a place on
+-- the slice of a word from an offset on
 pub rest_of : (cut : ℕ) (word : List ℕ) → take (length word - cut) (drop cut word) ≡ drop cut word
 rest_of cut word = take_all (length word - cut) (drop cut word) (omega (arith, length-drop cut word))
 

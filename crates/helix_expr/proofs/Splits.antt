@@ -9,7 +9,7 @@ use Rattle.helix_expr.specs.declared.expr.Expr.{Expr}
 use Rattle.helix_expr.specs.MatchingLaws.{Matches-Seq, Matches-Alt, Matches-Repeat}
 use Rattle.helix_expr.specs.declared.expr.Expr.TheViews.{Seq, Alt, Repeat}
 
--- no place where a word is cut serves
+-- no offset where a word is cut serves
 pub none_in_order : (part : Expr) (parts : List Expr) (word : List ℕ)
     → ((cut : ℕ) → cut < length word + 1 → Matches part (take cut word) → ¬ MatchInOrder parts (drop cut word))
     → ¬ MatchInOrder (part ∷ parts) word

@@ -21,9 +21,11 @@ multiple_of_factor m n k multiple =
     let e : k % (m * n) % n ≡ 0 = rw multiple (omega arith) in
     omega (arith, mod-mod_of_dvd n k (dvd-mul_left n m))
 
+-- each number is on the finest level
 pub number_grid_finest : (v : ℤ) → IsOnNumberGrid 0 v
 number_grid_finest v = omega arith
 
+-- a number on a level is on each finer one
 pub number_grid_coarser : (level finer : ℕ) (v : ℤ) → finer ≤ level → level < 16 → IsOnNumberGrid level v
     → IsOnNumberGrid finer v
 number_grid_coarser level finer v below within on =
@@ -31,6 +33,7 @@ number_grid_coarser level finer v below within on =
     multiple_of_factor (10 ^ (level - finer)) (10 ^ finer) (unsigned_abs v)
     (rw pow-add at (rw split at on))
 
+-- each moment is on the finest level
 pub moment_grid_finest : (v : ℤ) → IsOnMomentGrid 0 v
 moment_grid_finest v = omega arith
 
@@ -58,6 +61,7 @@ finer_by (suc steps) finer v within on =
     finer_by steps finer v (omega arith) (next_finer (steps + finer) v (omega arith)
     (subst (λ level. IsOnMomentGrid level v) next on))
 
+-- a moment on a level is on each finer one
 pub moment_grid_coarser : (level finer : ℕ) (v : ℤ) → finer ≤ level → level < 7 → IsOnMomentGrid level v
     → IsOnMomentGrid finer v
 moment_grid_coarser level finer v below within on =
@@ -95,6 +99,7 @@ some_moment_step (suc (suc (suc (suc (suc zero))))) within = omega arith
 some_moment_step (suc (suc (suc (suc (suc (suc zero)))))) within = omega arith
 some_moment_step (suc (suc (suc (suc (suc (suc (suc level))))))) within = absurd (omega arith)
 
+-- the numbers keep the laws of a ladder
 pub numbers_are_a_ladder : IsLadder numbers_ladder
 numbers_are_a_ladder = record {
   low_from = omega (arith, ints);
@@ -106,6 +111,7 @@ numbers_are_a_ladder = record {
   regular = λ level v within regular above below multiple. multiple;
 }
 
+-- the moments keep the laws of a ladder
 pub moments_are_a_ladder : IsLadder moments_ladder
 moments_are_a_ladder = record {
   low_from = omega (arith, ints);

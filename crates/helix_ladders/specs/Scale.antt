@@ -39,11 +39,12 @@ pub record IsAtOrBefore (ladder : Ladder) (level : ℕ) (bound v : ℤ) : Type 0
   pub on_grid : ladder.IsOn level v
   pub within : v ≤ℤ bound
 
--- the least number of a set, and the greatest
+-- the least number of a set
 pub record IsLeast (Has : ℤ → Type 0) (v : ℤ) : Type 0 where
   pub has : Has v
   pub least : (w : ℤ) → Has w → v ≤ℤ w
 
+-- the greatest number of a set
 pub record IsGreatest (Has : ℤ → Type 0) (v : ℤ) : Type 0 where
   pub has : Has v
   pub greatest : (w : ℤ) → Has w → w ≤ℤ v

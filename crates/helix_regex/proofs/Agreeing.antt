@@ -99,7 +99,7 @@ count_agrees (count_most ds es) a b fs count_is.Digit c = (refl, refl)
 count_agrees (count_most ds es) a b fs count_is.Close c = (refl, refl)
 count_agrees (count_most ds es) a b fs _ c = tt
 
--- a move of a class and what it does to the mode
+-- a move of a class and what it does to the scanner state
 abbrev MovesAs : ClassMove → Advance → ℕ → Type 0
 MovesAs move a c = (b : Pattern) (fs : List Frame) → Agrees (class_step false move c b fs) a (length fs)
 

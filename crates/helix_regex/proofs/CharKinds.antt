@@ -1,4 +1,4 @@
--- What the sign of a character tells.
+-- What the kind of a character tells.
 use Rattle.std.proofs.Common.{◌≡◌, ℕ, IsTrue, ◌==◌}
 use Rattle.std.proofs.lemmas.Bool.{eqb-true, cond_both}
 use Rattle.helix_regex.specs.declared.char_kind.CharKind.{CharKind}

@@ -25,7 +25,7 @@ use Rattle.helix_regex.proofs.TokenTexts.{item_tokens-push}
 abbrev pub items_read : ℕ → Bool → List Item → List Token
 items_read at n is = exclusion n ++ item_tokens (items_at at n) is
 
--- the tokens after the mark of a class that begins at a place
+-- the tokens after the mark of a class that begins at an offset
 abbrev pub class_tokens : ℕ → InClass → List Token
 class_tokens at class_opened = []
 class_tokens at class_first = token.Exclude ∷ []
@@ -62,7 +62,7 @@ items_push at n is i = ap (λ t. exclusion n ++ t) (item_tokens-push is i (items
     ∙ sym (append_assoc (exclusion n) (item_tokens (items_at at n) is)
     (item_token (items_at at n + length (items_text is)) i ∷ []))
 
--- the lexer in a mode
+-- the lexer in a scanner state
 abbrev pub in_state : ScannerState → Lexer → Lexer
 in_state m l = record { scanner_state = m; at = l.at; first = l.first; least = l.least; most = l.most }
 

@@ -9,7 +9,7 @@ use Rattle.helix_regex.specs.Pattern.{End, plain, escaped, Item, single, range, 
 use Rattle.helix_regex.specs.Inner.Scan.{class_kind, escape_kind}
 use Rattle.helix_regex.proofs.Machine.{alone, atom, Frame, InClass, class_opened, class_first, class_items, class_one, class_dash, class_last, class_escape, class_far, State, outside, in_class, ClassMove, refuse, go, done, first_move, items_move, one_move, dash_move, class_escape_move, far_move, opened_move, class_move, class_step, on_some, run}
 
--- a letter that names a set is no other sign
+-- a letter that names a set is of no other kind
 pub set_kind : (c : ℕ) → IsTrue (is_set_letter c) → escape_kind c ≡ escape_is.Set
 set_kind c e = elim (or_cases _ _ e) [
   | inl f ↦ ap escape_kind (eqb-true c 100 f)

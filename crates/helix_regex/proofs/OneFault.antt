@@ -14,7 +14,7 @@ use Rattle.helix_regex.proofs.ReadingPatterns as reading
 use Rattle.helix_regex.proofs.Scanned.{character_at}
 use Rattle.helix_regex.proofs.Faulty.{pattern_fault}
 
--- places of one kind are one
+-- offsets of one kind are one
 not_before : (text : List ℕ) (n m : ℕ) → IsFirstOutside text n → IsFirstOutside text m → ¬ (n < m)
 not_before text n m a b lt = a.other (subst (λ c. IsTrue (is_character c)) (get_or-take m text n 0 lt)
     (character_at (take m text) n b.characters

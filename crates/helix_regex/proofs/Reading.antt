@@ -15,7 +15,7 @@ pub run_step : (s next : State) (c : ℕ) (cs : List ℕ) → step s c ≡ Some 
 unfolding run
 run_step s next c cs e = ap (λ o. on_some o (λ n. run n cs)) e
 
--- signs that begin no quantifier
+-- kinds of characters that begin no quantifier
 abbrev IsPlainKind : CharKind → Type 0
 IsPlainKind kind_is.Star = ⊥
 IsPlainKind kind_is.Plus = ⊥
@@ -36,7 +36,7 @@ plain_step (atom a) b fs _ c h = refl
 plain_step (repeated a count) b fs kind_is.Question c h = absurd h
 plain_step (repeated a count) b fs _ c h = refl
 
--- a character whose sign is known
+-- a character whose kind is known
 pub signed : (last : Last) (b : Pattern) (fs : List Frame) (c : ℕ) (s : CharKind) (next : State) (r : List ℕ)
     → char_kind c ≡ s → IsPlainKind s → settled_step (settled last b) fs s c ≡ Some next
     → run (outside last b fs) (c ∷ r) ≡ run next r

@@ -12,7 +12,7 @@ use Rattle.helix_regex.specs.Inner.Lexing.{with_digit}
 use Rattle.helix_regex.proofs.Texts.{atom_text}
 use Rattle.helix_regex.proofs.Sound.{frames_text}
 
--- a place after two texts
+-- an offset after two texts
 after_two : (at : ℕ) (s t : List ℕ) → at + length (s ++ t) ≡ at + length s + length t
 after_two at s t = omega (arith, length-append s t)
 

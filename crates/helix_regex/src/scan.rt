@@ -8,7 +8,7 @@ ghost use Rattle.helix_regex.specs.Inner.Scan.{position_step, may_end};
 
 use crate::scanner_state::{Advance, ScannerState, next_state};
 
-/// What a scanner keeps: the mode, and how many groups are open.
+/// The scanner state, and the number of open groups.
 #[derive(Clone, Copy, Debug)]
 pub struct Position {
     pub scanner_state: ScannerState,

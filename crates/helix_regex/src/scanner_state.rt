@@ -66,7 +66,7 @@ pub enum Advance {
     Close(ScannerState),
 }
 
-/// What a character does after a mode.
+/// What a character does after a scanner state.
 pub fn next_state(scanner_state: ScannerState, code: u32) -> Advance
     requires { IsTrue (is_character code) }
     ensures { result ≡ scanner_step scanner_state code }

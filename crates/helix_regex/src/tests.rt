@@ -59,7 +59,7 @@ fn push_ranges(alloc: Global, out: &mut String, ranges: &[(u32, u32)]) -> Result
     Ok(())
 }
 
-/// What a pattern gives, as short text: the expression between its anchors, or the rule and the place.
+/// What a pattern gives, as short text: the expression between its anchors, or the rule and the offset.
 pub fn answer(alloc: Global, pattern: &str) -> Result<String, Memory> {
     let text = Text::of(alloc, pattern)?;
     match parse(alloc, &text) {

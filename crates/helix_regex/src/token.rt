@@ -1,7 +1,7 @@
 //! The tokens of a pattern.
 
 /// What a part of a pattern says. A `?` after a quantifier says nothing, and a class is its items between two marks. A
-/// token with a rule has the place of its first character.
+/// token with a rule has the offset of its first character.
 #[derive(Clone, Copy, Debug)]
 pub enum Token {
     Bar(usize),

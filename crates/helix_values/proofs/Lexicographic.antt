@@ -14,7 +14,7 @@ comparable-length [] (y ∷ b) both = absurd both
 comparable-length (x ∷ a) [] both = absurd both
 comparable-length (x ∷ a) (y ∷ b) both = omega (arith, comparable-length a b both.1)
 
--- and the cells at each place can be compared
+-- and the cells at each index can be compared
 pub comparable_at : (a b : List Cell) (i : ℕ) (x y : Cell) → AreComparableRows a b → i < length a
     → AreComparable (get_or a i x) (get_or b i y)
 comparable_at [] b i x y both within = absurd (omega arith)
@@ -33,7 +33,7 @@ then_differs Less s differ = refl
 then_differs Equal s differ = absurd (differ refl)
 then_differs Greater s differ = refl
 
--- the cells at a place of two rows, where all cells before them are equal
+-- the cells at an index of two rows, where all cells before them are equal
 module _ (a b : List Cell) (i : ℕ) (d : Cell) (in_a : i < length a) (in_b : i < length b)
     (so_far : row_cmp (drop i a) (drop i b) ≡ row_cmp a b) where
   next : row_cmp a b ≡ ordering_then (cell_cmp (get_or a i d) (get_or b i d))

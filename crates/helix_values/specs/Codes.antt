@@ -10,6 +10,7 @@ use Rattle.helix_values.specs.declared.kind.Code.TheVariants.{Isin, Sedol, Cusip
 abbrev pub is_capital : ℕ → Bool
 is_capital c = nat_le 65 c && nat_le c 90
 
+-- a capital letter or a digit
 abbrev pub is_capital_or_digit : ℕ → Bool
 is_capital_or_digit c = is_capital c || is_digit c
 

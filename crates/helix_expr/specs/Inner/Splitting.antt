@@ -7,7 +7,7 @@ use Rattle.helix_expr.specs.Matching.{Matches, Repeats}
 abbrev pub SplitsAt : (List ℕ → Type 0) → ℕ → Option ℕ → ℕ → List ℕ → Type 0
 SplitsAt Language least most cut word = Language (take cut word) × Repeats Language least most (drop cut word)
 
--- the same at some place, after at least `shortest` characters
+-- the same at some offset, after at least `shortest` characters
 abbrev pub SplitsOff : (List ℕ → Type 0) → ℕ → Option ℕ → ℕ → List ℕ → Type 0
 SplitsOff Language least most shortest word = (cut : ℕ) × (shortest ≤ cut) × (cut < length word + 1)
     × SplitsAt Language least most cut word

@@ -5,11 +5,13 @@ use Rattle.helix_json.specs.declared.digits.NumberState.TheVariants as state
 use Rattle.helix_json.specs.declared.digits.NumberCharacter.{NumberCharacter}
 use Rattle.helix_json.specs.declared.digits.NumberCharacter.TheVariants as kind
 
+-- what a character is in a number
 abbrev pub kind_of : ℕ → NumberCharacter
 kind_of c = if c == 48 then kind.Zero else if nat_le 49 c && nat_le c 57 then kind.Digit else if c == 43 then kind.Plus
     else if c == 45 then kind.Minus
     else if c == 46 then kind.Point else if c == 69 || c == 101 then kind.Mark else kind.Other
 
+-- the state after one more character, or none where no number goes on so
 abbrev pub number_step : NumberState → NumberCharacter → Option NumberState
 number_step state.Nothing kind.Minus = Some state.Minus
 number_step state.Nothing kind.Zero = Some state.Zero
@@ -37,6 +39,7 @@ number_step state.Exponent kind.Zero = Some state.Exponent
 number_step state.Exponent kind.Digit = Some state.Exponent
 number_step _ _ = None
 
+-- a number may end in this state
 abbrev pub number_ends : NumberState → Bool
 number_ends state.Zero = true
 number_ends state.Whole = true

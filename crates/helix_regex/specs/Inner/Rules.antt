@@ -17,7 +17,7 @@ abbrev pub some_if : Bool → ℕ → Option ℕ
 some_if true at = Some at
 some_if false at = None
 
--- the first place that a token has
+-- the first offset that a token has
 abbrev pub first_some : (Token → Option ℕ) → List Token → Option ℕ
 first_some f [] = None
 first_some f (t ∷ ts) = or_else (f t) (first_some f ts)

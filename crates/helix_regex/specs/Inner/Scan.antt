@@ -151,7 +151,7 @@ moved (advance.Close m) (suc d) = Some (record { scanner_state = m; depth = d })
 abbrev pub position_step : Position → ℕ → Option Position
 position_step p c = moved (scanner_step p.scanner_state c) p.depth
 
--- a pattern may end in this mode, where no group is open
+-- a pattern may end in this scanner state, where no group is open
 abbrev pub may_end : ScannerState → Bool
 may_end scanner_state.Ready = true
 may_end scanner_state.Atom = true
