@@ -2,10 +2,9 @@
 
 mod refused;
 
-use crate::{
-    CellRef, Code, Kind, cell_text, in_universe, moment_of, moment_text, read_cell, small_text,
-};
+use crate::{cell_text, moment_of, moment_text, read_cell, small_text};
 use helix_base::{Alphabet, Text};
+use helix_values::{CellRef, Code, Kind, in_universe};
 use std::alloc::Global;
 use std::process::Abort;
 use std::test::Fail;

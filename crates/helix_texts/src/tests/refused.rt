@@ -1,7 +1,8 @@
 //! Texts that spell no value of a kind.
 
-use crate::{CellFault, Code, Kind, read_cell};
+use crate::{CellFault, read_cell};
 use helix_base::{Alphabet, Text};
+use helix_values::{Code, Kind};
 use std::test::Fail;
 
 #[test]
