@@ -19,69 +19,49 @@ fives =
     1 ∷ 5 ∷ 25 ∷ 125 ∷ 625 ∷ 3125 ∷ 15625 ∷ 78125 ∷ 390625 ∷ 1953125 ∷ 9765625 ∷ 48828125 ∷ 244140625 ∷
     1220703125 ∷ 6103515625 ∷ 30517578125 ∷ []
 
-pub power_at : (level : ℕ) → level < 16
-    → get_or tens level 0 ≡ 10 ^ level
-power_at zero within = refl
-power_at (suc zero) within = refl
-power_at (suc (suc zero)) within = refl
-power_at (suc (suc (suc zero))) within = refl
-power_at (suc (suc (suc (suc zero)))) within = refl
-power_at (suc (suc (suc (suc (suc zero))))) within = refl
-power_at (suc (suc (suc (suc (suc (suc zero)))))) within = refl
-power_at (suc (suc (suc (suc (suc (suc (suc zero))))))) within = refl
-power_at (suc (suc (suc (suc (suc (suc (suc (suc zero)))))))) within = refl
-power_at (suc (suc (suc (suc (suc (suc (suc (suc (suc zero))))))))) within = refl
-power_at (suc (suc (suc (suc (suc (suc (suc (suc (suc (suc zero)))))))))) within = refl
-power_at (suc (suc (suc (suc (suc (suc (suc (suc (suc (suc (suc zero))))))))))) within = refl
-power_at (suc (suc (suc (suc (suc (suc (suc (suc (suc (suc (suc (suc zero)))))))))))) within = refl
-power_at (suc (suc (suc (suc (suc (suc (suc (suc (suc (suc (suc (suc (suc zero))))))))))))) within = refl
-power_at (suc (suc (suc (suc (suc (suc (suc (suc (suc (suc (suc (suc (suc (suc zero)))))))))))))) within = refl
-power_at (suc (suc (suc (suc (suc (suc (suc (suc (suc (suc (suc (suc (suc (suc (suc zero))))))))))))))) within = refl
-power_at (suc (suc (suc (suc (suc (suc (suc (suc (suc (suc (suc (suc (suc (suc (suc (suc level)))))))))))))))) within =
-    absurd (omega arith)
+-- what holds of each of the sixteen levels
+module _ (P : ℕ → Type 0) (p0 : P 0) (p1 : P 1) (p2 : P 2) (p3 : P 3) (p4 : P 4) (p5 : P 5)
+    (p6 : P 6) (p7 : P 7) (p8 : P 8) (p9 : P 9) (p10 : P 10)
+    (p11 : P 11) (p12 : P 12) (p13 : P 13) (p14 : P 14) (p15 : P 15) where
+  each_level : (level : ℕ) → level < 16 → P level
+  each_level zero within = p0
+  each_level (suc zero) within = p1
+  each_level (suc (suc zero)) within = p2
+  each_level (suc (suc (suc zero))) within = p3
+  each_level (suc (suc (suc (suc zero)))) within = p4
+  each_level (suc (suc (suc (suc (suc zero))))) within = p5
+  each_level (suc (suc (suc (suc (suc (suc zero)))))) within = p6
+  each_level (suc (suc (suc (suc (suc (suc (suc zero))))))) within = p7
+  each_level (suc (suc (suc (suc (suc (suc (suc (suc zero)))))))) within = p8
+  each_level (suc (suc (suc (suc (suc (suc (suc (suc (suc zero))))))))) within = p9
+  each_level (suc (suc (suc (suc (suc (suc (suc (suc (suc (suc zero)))))))))) within = p10
+  each_level (suc (suc (suc (suc (suc (suc (suc (suc (suc (suc (suc zero))))))))))) within = p11
+  each_level (suc (suc (suc (suc (suc (suc (suc (suc (suc (suc (suc (suc zero)))))))))))) within = p12
+  each_level (suc (suc (suc (suc (suc (suc (suc (suc (suc (suc (suc (suc (suc zero))))))))))))) within = p13
+  each_level (suc (suc (suc (suc (suc (suc (suc (suc (suc (suc (suc (suc (suc (suc zero)))))))))))))) within = p14
+  each_level (suc (suc (suc (suc (suc (suc (suc (suc (suc (suc (suc (suc (suc (suc (suc zero))))))))))))))) within = p15
+  each_level (suc (suc (suc (suc (suc (suc (suc (suc (suc (suc (suc (suc (suc (suc (suc (suc level)))))))))))))))) within =
+      absurd (omega arith)
 
-pub five_at : (level : ℕ) → level < 16
-    → get_or fives level 0 ≡ 5 ^ level
-five_at zero within = refl
-five_at (suc zero) within = refl
-five_at (suc (suc zero)) within = refl
-five_at (suc (suc (suc zero))) within = refl
-five_at (suc (suc (suc (suc zero)))) within = refl
-five_at (suc (suc (suc (suc (suc zero))))) within = refl
-five_at (suc (suc (suc (suc (suc (suc zero)))))) within = refl
-five_at (suc (suc (suc (suc (suc (suc (suc zero))))))) within = refl
-five_at (suc (suc (suc (suc (suc (suc (suc (suc zero)))))))) within = refl
-five_at (suc (suc (suc (suc (suc (suc (suc (suc (suc zero))))))))) within = refl
-five_at (suc (suc (suc (suc (suc (suc (suc (suc (suc (suc zero)))))))))) within = refl
-five_at (suc (suc (suc (suc (suc (suc (suc (suc (suc (suc (suc zero))))))))))) within = refl
-five_at (suc (suc (suc (suc (suc (suc (suc (suc (suc (suc (suc (suc zero)))))))))))) within = refl
-five_at (suc (suc (suc (suc (suc (suc (suc (suc (suc (suc (suc (suc (suc zero))))))))))))) within = refl
-five_at (suc (suc (suc (suc (suc (suc (suc (suc (suc (suc (suc (suc (suc (suc zero)))))))))))))) within = refl
-five_at (suc (suc (suc (suc (suc (suc (suc (suc (suc (suc (suc (suc (suc (suc (suc zero))))))))))))))) within = refl
-five_at (suc (suc (suc (suc (suc (suc (suc (suc (suc (suc (suc (suc (suc (suc (suc (suc level)))))))))))))))) within =
-    absurd (omega arith)
+pub power_at : (level : ℕ) → level < 16 → get_or tens level 0 ≡ 10 ^ level
+power_at = each_level (λ level. get_or tens level 0 ≡ 10 ^ level)
+    refl refl refl refl refl refl refl refl refl refl refl refl refl refl refl refl
 
-pub five_small : (level : ℕ) → level < 16
-    → get_or fives level 0 ≤ 5 ^ 15
-five_small zero within = omega arith
-five_small (suc zero) within = omega arith
-five_small (suc (suc zero)) within = omega arith
-five_small (suc (suc (suc zero))) within = omega arith
-five_small (suc (suc (suc (suc zero)))) within = omega arith
-five_small (suc (suc (suc (suc (suc zero))))) within = omega arith
-five_small (suc (suc (suc (suc (suc (suc zero)))))) within = omega arith
-five_small (suc (suc (suc (suc (suc (suc (suc zero))))))) within = omega arith
-five_small (suc (suc (suc (suc (suc (suc (suc (suc zero)))))))) within = omega arith
-five_small (suc (suc (suc (suc (suc (suc (suc (suc (suc zero))))))))) within = omega arith
-five_small (suc (suc (suc (suc (suc (suc (suc (suc (suc (suc zero)))))))))) within = omega arith
-five_small (suc (suc (suc (suc (suc (suc (suc (suc (suc (suc (suc zero))))))))))) within = omega arith
-five_small (suc (suc (suc (suc (suc (suc (suc (suc (suc (suc (suc (suc zero)))))))))))) within = omega arith
-five_small (suc (suc (suc (suc (suc (suc (suc (suc (suc (suc (suc (suc (suc zero))))))))))))) within = omega arith
-five_small (suc (suc (suc (suc (suc (suc (suc (suc (suc (suc (suc (suc (suc (suc zero)))))))))))))) within = omega arith
-five_small (suc (suc (suc (suc (suc (suc (suc (suc (suc (suc (suc (suc (suc (suc (suc zero))))))))))))))) within =
-    omega arith
-five_small (suc (suc (suc (suc (suc (suc (suc (suc (suc (suc (suc (suc (suc (suc (suc (suc level))))))))))))))))
-    within = absurd (omega arith)
+pub five_at : (level : ℕ) → level < 16 → get_or fives level 0 ≡ 5 ^ level
+five_at = each_level (λ level. get_or fives level 0 ≡ 5 ^ level)
+    refl refl refl refl refl refl refl refl refl refl refl refl refl refl refl refl
+
+pub five_small : (level : ℕ) → level < 16 → get_or fives level 0 ≤ 5 ^ 15
+five_small = each_level (λ level. get_or fives level 0 ≤ 5 ^ 15)
+    (omega arith) (omega arith) (omega arith) (omega arith) (omega arith) (omega arith) (omega arith)
+    (omega arith) (omega arith) (omega arith) (omega arith) (omega arith) (omega arith) (omega arith)
+    (omega arith) (omega arith)
+
+pub two_small : (level : ℕ) → level < 16 → 2 ^ level ≤ 2 ^ 15
+two_small = each_level (λ level. 2 ^ level ≤ 2 ^ 15)
+    (omega arith) (omega arith) (omega arith) (omega arith) (omega arith) (omega arith) (omega arith)
+    (omega arith) (omega arith) (omega arith) (omega arith) (omega arith) (omega arith) (omega arith)
+    (omega arith) (omega arith)
 
 -- a power of ten is one of five times one of two
 ten_is : (level : ℕ) → 10 ^ level ≡ 5 ^ level * 2 ^ level
@@ -100,27 +80,6 @@ remainder_by_parts : (number level : ℕ) →
     (number / 2 ^ level % 5 ^ level) * 2 ^ level + number % 2 ^ level ≡ number % 10 ^ level
 remainder_by_parts number level = sym (ap (λ n. number % n) (ten_is level)
     ∙ mod-mul number (five_positive level) (two_positive level))
-
-pub two_small : (level : ℕ) → level < 16 → 2 ^ level ≤ 2 ^ 15
-two_small zero within = omega arith
-two_small (suc zero) within = omega arith
-two_small (suc (suc zero)) within = omega arith
-two_small (suc (suc (suc zero))) within = omega arith
-two_small (suc (suc (suc (suc zero)))) within = omega arith
-two_small (suc (suc (suc (suc (suc zero))))) within = omega arith
-two_small (suc (suc (suc (suc (suc (suc zero)))))) within = omega arith
-two_small (suc (suc (suc (suc (suc (suc (suc zero))))))) within = omega arith
-two_small (suc (suc (suc (suc (suc (suc (suc (suc zero)))))))) within = omega arith
-two_small (suc (suc (suc (suc (suc (suc (suc (suc (suc zero))))))))) within = omega arith
-two_small (suc (suc (suc (suc (suc (suc (suc (suc (suc (suc zero)))))))))) within = omega arith
-two_small (suc (suc (suc (suc (suc (suc (suc (suc (suc (suc (suc zero))))))))))) within = omega arith
-two_small (suc (suc (suc (suc (suc (suc (suc (suc (suc (suc (suc (suc zero)))))))))))) within = omega arith
-two_small (suc (suc (suc (suc (suc (suc (suc (suc (suc (suc (suc (suc (suc zero))))))))))))) within = omega arith
-two_small (suc (suc (suc (suc (suc (suc (suc (suc (suc (suc (suc (suc (suc (suc zero)))))))))))))) within = omega arith
-two_small (suc (suc (suc (suc (suc (suc (suc (suc (suc (suc (suc (suc (suc (suc (suc zero))))))))))))))) within =
-    omega arith
-two_small (suc (suc (suc (suc (suc (suc (suc (suc (suc (suc (suc (suc (suc (suc (suc (suc level)))))))))))))))) within =
-    absurd (omega arith)
 
 pub small_power_of_two : (level : ℕ) → level < 16 → 1 * 2 ^ level % 2 ^ 128 ≡ 2 ^ level
 small_power_of_two level within =

@@ -9,6 +9,9 @@ ghost use Rattle.helix_texts.specs.Texts.{last_digits};
 use helix_base::{Text, is_digit};
 use helix_ladders::{Date, day_number, days_of_month, midnight, power_of_ten};
 
+/// The mark of Coordinated Universal Time.
+const ZULU: u32 = 'Z' as u32;
+
 /// Three numbers with a mark between them.
 #[derive(Clone, Copy)]
 struct Three {
@@ -42,7 +45,7 @@ fn split_date(codes: &[u32]) -> Option<(Date, &[u32])>
         BeginsWithDate codes.now found.0.year found.0.month found.0.day found.1.now) }
     ensures none { IfNone result ((y m d : ℕ) (rest : List ℕ) → ¬ BeginsWithDate codes.now y m d rest) }
 {
-    let Some((date, rest)) = split_three(codes, 4, 45) else {
+    let Some((date, rest)) = split_three(codes, 4, '-' as u32) else {
         return None;
     };
     let (year, month, day) = (date.first, date.second, date.third);
@@ -67,10 +70,10 @@ fn millis_after(codes: &[u32]) -> Option<u32>
     ensures short { IfSome result (λ millis. millis < 86400000) }
     ensures none { IfNone result ((time : Time) → ¬ IsTimeAfter codes.now time) }
 {
-    let Some(text) = split_mark(codes, 84) else {
+    let Some(text) = split_mark(codes, 'T' as u32) else {
         return None;
     };
-    let Some((clock, rest)) = split_three(text, 2, 58) else {
+    let Some((clock, rest)) = split_three(text, 2, ':' as u32) else {
         return None;
     };
     if !is_clock(clock) {
@@ -101,7 +104,7 @@ fn thousandths_of(codes: &[u32]) -> Option<u32>
     if prefix.is_empty() {
         return Some(0);
     }
-    let Some(digits) = split_mark(prefix, 46) else {
+    let Some(digits) = split_mark(prefix, '.' as u32) else {
         return None;
     };
     if digits.is_empty() || digits.len() > 3 {
@@ -118,7 +121,7 @@ fn without_zulu(codes: &[u32]) -> &[u32]
     ensures { TakesZulu codes.now result.now }
 {
     match codes.split_last() {
-        Some((90, prefix)) => prefix,
+        Some((ZULU, prefix)) => prefix,
         _ => codes,
     }
 }
@@ -203,7 +206,7 @@ fn number_of(digits: &[u32]) -> Option<u32>
         if !is_digit(*code) {
             return None;
         }
-        number = number * 10 + (*code - 48);
+        number = number * 10 + (*code - '0' as u32);
     }
     Some(number)
 }

@@ -1,6 +1,6 @@
 -- The check rules of ISIN (ISO 6166), SEDOL and CUSIP (ANSI X9.6).
 use Rattle.std.specs.Prelude.{ℕ, ◌+◌, ◌-◌, ◌*◌, ◌/◌, ◌%◌, Bool, false, not, ◌&&◌, ◌||◌, ◌==◌, nat_le, IsTrue, if◌then◌else◌, List, [], ◌∷◌, length, take, drop, map, reverse}
-use Rattle.std.specs.List.{list_all, list_any, flat_map}
+use Rattle.std.specs.List.{list_all, flat_map}
 use Rattle.helix_base.specs.Digits.{is_digit}
 use Rattle.helix_base.specs.Weights.{weighted_sum}
 use Rattle.helix_values.specs.declared.kind.Code.{Code}
@@ -14,13 +14,17 @@ is_capital c = nat_le 65 c && nat_le c 90
 abbrev pub is_capital_or_digit : ℕ → Bool
 is_capital_or_digit c = is_capital c || is_digit c
 
--- a digit, or a letter other than A, E, I, O and U
+-- `A`, `E`, `I`, `O` or `U`
+abbrev pub is_vowel : ℕ → Bool
+is_vowel c = (c == 65) || (c == 69) || (c == 73) || (c == 79) || (c == 85)
+
+-- a digit, or a letter that is no vowel
 abbrev pub is_sedol_character : ℕ → Bool
-is_sedol_character c = is_capital_or_digit c && not (list_any (λ v. c == v) (65 ∷ 69 ∷ 73 ∷ 79 ∷ 85 ∷ []))
+is_sedol_character c = is_capital_or_digit c && not (is_vowel c)
 
 -- a digit, a letter, `*`, `@` or `#`
 abbrev pub is_cusip_character : ℕ → Bool
-is_cusip_character c = is_capital_or_digit c || list_any (λ s. c == s) (42 ∷ 64 ∷ 35 ∷ [])
+is_cusip_character c = is_capital_or_digit c || (c == 42) || (c == 64) || (c == 35)
 
 -- a digit's own value, 10 to 35 for A to Z, and 36 to 38 for `*`, `@` and `#`
 abbrev pub value_of : ℕ → ℕ

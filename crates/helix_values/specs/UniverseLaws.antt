@@ -61,12 +61,11 @@ one_of code other from to is =
 
 cusip_character : (code : ℕ) → is_cusip_character code ≡ true → IsCharacterOf Unicode code
 cusip_character code is =
-    ⊎_elim (letter_or_digit code)
-    (λ star. ⊎_elim (one_of code 42 (omega arith) (omega arith))
-    (λ at. ⊎_elim (one_of code 64 (omega arith) (omega arith))
-    (λ hash. ⊎_elim (one_of code 35 (omega arith) (omega arith)) (λ none. cc) (or_cases _ _ hash))
-    (or_cases _ _ at)) (or_cases _ _ star))
-    (or_cases _ _ is)
+    ⊎_elim
+    (λ others. ⊎_elim
+    (λ letters. ⊎_elim (letter_or_digit code) (one_of code 42 (omega arith) (omega arith)) (or_cases _ _ letters))
+    (one_of code 64 (omega arith) (omega arith)) (or_cases _ _ others))
+    (one_of code 35 (omega arith) (omega arith)) (or_cases _ _ is)
 
 -- the characters of a word that all pass a test
 module _ (test : ℕ → Bool) (in_test : (code : ℕ) → test code ≡ true → IsCharacterOf Unicode code) (word : List ℕ) where

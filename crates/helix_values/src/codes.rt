@@ -7,7 +7,7 @@ ghost use Rattle.helix_base.specs.Digits.{is_digit as digit};
 ghost use Rattle.helix_base.specs.Weights.{weighted_sum};
 ghost use Rattle.helix_values.specs.Codes.{IsValidCode, is_isin as isin, is_sedol as sedol, is_cusip as cusip};
 ghost use Rattle.helix_values.specs.Codes.{is_isin_shape as isin_shape, is_sedol_shape as sedol_shape, is_cusip_shape as cusip_shape};
-ghost use Rattle.helix_values.specs.Codes.{is_capital as capital, is_capital_or_digit as capital_or_digit};
+ghost use Rattle.helix_values.specs.Codes.{is_capital as capital, is_vowel as vowel, is_capital_or_digit as capital_or_digit};
 ghost use Rattle.helix_values.specs.Codes.{is_sedol_character as sedol_character, is_cusip_character as cusip_character};
 ghost use Rattle.helix_values.specs.Codes.{value_of as value, digits_of, digit_sum, doubled_sum, sedol_weights};
 
@@ -165,12 +165,16 @@ fn value_of(c: u32) -> u64
     ensures value { result ≡ value c }
     ensures small { result < 2 ^ 32 }
 {
-    match c {
-        0x30..=0x39 => u64::from(c - 0x30),
-        0x2A => 36,
-        0x40 => 37,
-        0x23 => 38,
-        _ => u64::from(c.saturating_sub(55)),
+    if is_digit(c) {
+        u64::from(c - '0' as u32)
+    } else if c == '*' as u32 {
+        36
+    } else if c == '@' as u32 {
+        37
+    } else if c == '#' as u32 {
+        38
+    } else {
+        u64::from(c.saturating_sub('A' as u32 - 10))
     }
 }
 
@@ -183,11 +187,17 @@ fn is_capital(c: u32) -> bool
 fn is_sedol_character(c: u32) -> bool
     ensures { result ≡ sedol_character c }
 {
-    (is_capital(c) || is_digit(c)) && !matches!(c, 0x41 | 0x45 | 0x49 | 0x4F | 0x55)
+    (is_capital(c) || is_digit(c)) && !is_vowel(c)
+}
+
+fn is_vowel(c: u32) -> bool
+    ensures { result ≡ vowel c }
+{
+    c == 'A' as u32 || c == 'E' as u32 || c == 'I' as u32 || c == 'O' as u32 || c == 'U' as u32
 }
 
 fn is_cusip_character(c: u32) -> bool
     ensures { result ≡ cusip_character c }
 {
-    is_capital(c) || is_digit(c) || matches!(c, 0x2A | 0x40 | 0x23)
+    is_capital(c) || is_digit(c) || c == '*' as u32 || c == '@' as u32 || c == '#' as u32
 }
