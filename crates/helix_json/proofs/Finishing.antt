@@ -13,7 +13,7 @@ use Rattle.helix_base.specs.Syntax.{IsViablePrefix, IsSyntaxErrorAt}
 use Rattle.helix_json.specs.Inner.Lexer.{between, lex}
 use Rattle.helix_json.specs.Inner.Machine.{Reading, value, first_item, first_key, key, colon, after, in_list, in_object, run}
 use Rattle.helix_json.specs.Inner.Need.{need_of, opened, containers}
-use Rattle.helix_json.specs.Inner.Progress.{IsWhole, IsReadTo, AllBegin, Holds}
+use Rattle.helix_json.specs.Inner.Progress.{IsWhole, IsReadTo, AllBegin, HoldsSoFar}
 use Rattle.helix_json.specs.Inner.Scanned.{AreTokensOf}
 use Rattle.helix_json.proofs.StringBack.{two_true}
 use Rattle.helix_json.proofs.Machine.{run_tokens}
@@ -27,13 +27,13 @@ use Rattle.helix_json.proofs.ReadingOn.{read_to_start}
 use Rattle.helix_json.proofs.TokenOffsets.{each_offset, offset_of_each}
 
 pub holds_same : (text : List ℕ) (at : ℕ) (ts us : List Token) (ps qs : List ℕ) (old new : Nest) → us ≡ ts → qs ≡ ps
-    → new ≡ old → Holds text at ts ps old → Holds text at us qs new
+    → new ≡ old → HoldsSoFar text at ts ps old → HoldsSoFar text at us qs new
 holds_same text at ts us ps qs old new e f g holds =
-    subst (λ l. Holds text at l qs new) (sym e)
-    (subst (λ l. Holds text at ts l new) (sym f) (subst (λ n. Holds text at ts ps n) (sym g) holds))
+    subst (λ l. HoldsSoFar text at l qs new) (sym e)
+    (subst (λ l. HoldsSoFar text at ts l new) (sym f) (subst (λ n. HoldsSoFar text at ts ps n) (sym g) holds))
 
 pub holds_start : (text : List ℕ) (ts : List Token) (ps : List ℕ) (nest : Nest) → ts ≡ [] → ps ≡ []
-    → nest.need ≡ need.Value → nest.containers.items ≡ [] → Holds text 0 ts ps nest
+    → nest.need ≡ need.Value → nest.containers.items ≡ [] → HoldsSoFar text 0 ts ps nest
 holds_start text ts ps nest no_tokens no_offsets needs holds = record {
   reading = value [];
   is_read = subst (λ l. IsReadTo text 0 l (value [])) (sym no_tokens) (read_to_start text);
@@ -52,7 +52,7 @@ whole_reading (after x (in_list xs ∷ fs)) e f = absurd (no_push (opened fs) co
 whole_reading (after x (in_object ms k ∷ fs)) e f = absurd (no_push (opened fs) container.Object (sym f))
 
 module _ (text : List ℕ) (at : ℕ) (ts : List Token) (ps : List ℕ) (nest : Nest) (past : length text ≤ at)
-    (holds : Holds text at ts ps nest) where
+    (holds : HoldsSoFar text at ts ps nest) where
   at_end : at ≡ length text
   at_end = omega (arith, holds.is_read.within)
 

@@ -17,7 +17,7 @@ use Rattle.helix_json.specs.Inner.Lexer.{Lex, between, in_string, class, by_clas
 use Rattle.helix_json.specs.Inner.Machine.{Reading, step, run, on_some}
 use Rattle.helix_json.specs.Inner.Need.{kind_of_token}
 use Rattle.helix_json.specs.Inner.Scan.{may_go, FineLex, HasRead}
-use Rattle.helix_json.specs.Inner.Progress.{Allows, IsReadTo, Holds}
+use Rattle.helix_json.specs.Inner.Progress.{Allows, IsReadTo, HoldsSoFar}
 use Rattle.helix_json.specs.Inner.Lexeme.{ReadsString}
 use Rattle.helix_json.proofs.LexingNumbers.{blank_class}
 use Rattle.helix_json.proofs.Endings.{run_one}
@@ -29,8 +29,8 @@ pub no_blank : (c : ℕ) (k : Class) → class c ≡ k → k ≢ class_is.Blank 
 no_blank c k is other = false_from_ne_true (is_blank c) (λ e. other (sym is ∙ blank_class c e))
 
 module _ (text : List ℕ) (at : ℕ) (tokens : List Token) (offsets : List ℕ) (old : Nest) (within : at < length text)
-    (holds : Holds text at tokens offsets old) where
-  pub holds_blank : class (get_or text at 0) ≡ class_is.Blank → Holds text (at + 1) tokens offsets old
+    (holds : HoldsSoFar text at tokens offsets old) where
+  pub holds_blank : class (get_or text at 0) ≡ class_is.Blank → HoldsSoFar text (at + 1) tokens offsets old
   holds_blank is = record {
     reading = holds.reading;
     is_read = read_to text (at + 1) tokens holds.reading (omega arith)
@@ -44,7 +44,7 @@ module _ (text : List ℕ) (at : ℕ) (tokens : List Token) (offsets : List ℕ)
   pub holds_token : (next : ℕ) (t : Token) (new : Nest) (k : Class) → class (get_or text at 0) ≡ k → k ≢ class_is.Blank
       → Allows old new (kind_of_token t) true
       → ((q : Reading) → step holds.reading t ≡ Some q → IsReadTo text next (tokens ++ t ∷ []) q)
-      → Holds text next (tokens ++ t ∷ []) (offsets ++ at ∷ []) new
+      → HoldsSoFar text next (tokens ++ t ∷ []) (offsets ++ at ∷ []) new
   holds_token next t new k is other allowed is_read = let (q, go, tracks) = allowed holds.reading t holds.tracks refl in
       record {
         reading = q;
@@ -75,7 +75,7 @@ module _ (text : List ℕ) (at : ℕ) (tokens : List Token) (offsets : List ℕ)
   -- structural characters
   module _ (m : Mark) (new : Nest) (is : class (get_or text at 0) ≡ class_is.Mark m) where
     pub mark_holds : Allows old new (kind_of_token (mark_token m)) true
-        → Holds text (at + 1) (tokens ++ mark_token m ∷ []) (offsets ++ at ∷ []) new
+        → HoldsSoFar text (at + 1) (tokens ++ mark_token m ∷ []) (offsets ++ at ∷ []) new
     mark_holds allowed = holds_token (at + 1) (mark_token m) new (class_is.Mark m) is (λ e. cc) allowed
         (λ q go. read_to text (at + 1) (tokens ++ mark_token m ∷ []) q (omega arith)
         (goes_on text at tokens holds.reading within holds.is_read (mark_token m ∷ []) q between
@@ -101,7 +101,7 @@ module _ (text : List ℕ) (at : ℕ) (tokens : List Token) (offsets : List ℕ)
       string_stops count fails = fails tokens holds.reading string_begins
 
       pub string_holds : (string : List ℕ) (end : ℕ) → ReadsString text (at + 1) (read.Closes string end)
-          → Holds text end (tokens ++ token.Str string ∷ []) (offsets ++ at ∷ []) new
+          → HoldsSoFar text end (tokens ++ token.Str string ∷ []) (offsets ++ at ∷ []) new
       string_holds string end (forth, most, reads) =
           holds_token end (token.Str string) new class_is.Quote is (λ e. cc) allowed
           (λ q go. read_to text end (tokens ++ token.Str string ∷ []) q most

@@ -18,7 +18,7 @@ use Rattle.helix_json.specs.Inner.Lexer.{between, in_word, in_number, lex, on_em
 use Rattle.helix_json.specs.Inner.Machine.{Reading, step}
 use Rattle.helix_json.specs.Inner.Need.{kind_of_token}
 use Rattle.helix_json.specs.Inner.Scan.{HasRead}
-use Rattle.helix_json.specs.Inner.Progress.{Allows, Holds}
+use Rattle.helix_json.specs.Inner.Progress.{Allows, HoldsSoFar}
 use Rattle.helix_json.specs.Inner.Lexeme.{ReadsNumber, ReadsLetters}
 use Rattle.helix_json.proofs.Decimal.{le_or_lt}
 use Rattle.helix_json.proofs.Machine.{run-append}
@@ -100,7 +100,7 @@ some_letters word.True e = cc
 some_letters word.False e = cc
 
 module _ (text : List ℕ) (at : ℕ) (tokens : List Token) (offsets : List ℕ) (old : Nest) (within : at < length text)
-    (holds : Holds text at tokens offsets old) where
+    (holds : HoldsSoFar text at tokens offsets old) where
   module _ (w : Word) (new : Nest) (is : class (get_or text at 0) ≡ class_is.Word w) where
     pub word_fails : Allows old new kind.Scalar false → IsSyntaxErrorAt IsJsonText text at
     word_fails refuses = token_refused text at tokens offsets old within holds (word_token w) (in_word w (word_rest w))
@@ -134,7 +134,7 @@ module _ (text : List ℕ) (at : ℕ) (tokens : List Token) (offsets : List ℕ)
           reads.within (reads.stops few)
 
       pub word_holds : length (word_rest w) ≤ count
-          → Holds text (at + 1 + count) (tokens ++ word_token w ∷ []) (offsets ++ at ∷ []) new
+          → HoldsSoFar text (at + 1 + count) (tokens ++ word_token w ∷ []) (offsets ++ at ∷ []) new
       word_holds all = holds_token text at tokens offsets old within holds (at + 1 + count) (word_token w) new
           (class_is.Word w) is (λ e. cc) allows
           (λ q go. read_to text (at + 1 + count) (tokens ++ word_token w ∷ []) q reads.within
@@ -178,7 +178,7 @@ module _ (text : List ℕ) (at : ℕ) (tokens : List Token) (offsets : List ℕ)
         ]
 
         pub number_holds : number_ends last ≡ true
-            → Holds text end (tokens ++ token.Number (slice_range text at end) ∷ []) (offsets ++ at ∷ []) new
+            → HoldsSoFar text end (tokens ++ token.Number (slice_range text at end) ∷ []) (offsets ++ at ∷ []) new
         number_holds ends = holds_token text at tokens offsets old within holds end
             (token.Number (slice_range text at end)) new class_is.Other is (λ e. cc) allowed
             (λ q go. read_to_number text end tokens holds.reading q (slice_range text at end) last reads.within

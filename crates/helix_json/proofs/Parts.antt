@@ -1,6 +1,6 @@
 -- The units of a number whose parts are found.
 use Rattle.std.proofs.Common.{◌≡◌, ℕ, ◌≤◌, zero, suc, List, ◌++◌, length, Bool, true, false, ℤ, nat_abs, refl, sym, ◌∙◌, ap, subst, arith}
-use Rattle.helix_json.specs.Numbers.{Parts, SpellsNumber, digits_value, signed, IsUnits, IsNumber}
+use Rattle.helix_json.specs.Numbers.{NumberParts, SpellsNumber, digits_value, signed, IsUnits, IsNumber}
 use Rattle.helix_base.specs.Digits.{AreDigits}
 use Rattle.helix_json.specs.Inner.Pieces.{NoDigit, TakesSign, TakesFraction, TakesExponent, Found, AreUnits}
 use Rattle.helix_json.specs.Inner.PartsLaws.{parts_found, units_found}
@@ -17,15 +17,15 @@ module _ (text codes unsigned whole later fraction last digits : List ℕ) (nega
     (sign : TakesSign codes negative unsigned) (is : unsigned ≡ whole ++ later) (all : AreDigits whole)
     (stops : NoDigit later)
     (point : TakesFraction later fraction last) (exponent : TakesExponent last lowers digits) where
-  pub found_in : (parts : Parts) → SpellsNumber text parts → Found parts negative whole fraction lowers digits
+  pub found_in : (parts : NumberParts) → SpellsNumber text parts → Found parts negative whole fraction lowers digits
   found_in parts spells = parts_found text unsigned whole later fraction last digits negative lowers
       (let P : List ℕ → Type 0 = λ t. TakesSign t negative unsigned in
       subst P same sign) is all stops point exponent parts spells
 
-  pub fraction_digits : (parts : Parts) → SpellsNumber text parts → AreDigits fraction
+  pub fraction_digits : (parts : NumberParts) → SpellsNumber text parts → AreDigits fraction
   fraction_digits parts spells = subst AreDigits (sym (found_in parts spells).fraction_is) spells.are.fraction
 
-  pub exponent_digits : (parts : Parts) → SpellsNumber text parts → AreDigits digits
+  pub exponent_digits : (parts : NumberParts) → SpellsNumber text parts → AreDigits digits
   exponent_digits parts spells = (found_in parts spells).exponent_is.are_digits
 
   pub units_in : (units : ℤ) (n : ℕ)

@@ -24,14 +24,14 @@ IsExponent no_exponent = Unit {0}
 IsExponent (power mark sign digits) = ((mark ≡ 69) ⊎ (mark ≡ 101)) × (digits ≢ []) × AreDigits digits
 
 -- the parts of a number: whether it begins with `-`, the digits before and after the point, the exponent
-pub record Parts : Type 0 where
+pub record NumberParts : Type 0 where
   pub negative : Bool
   pub whole : List ℕ
   pub fraction : List ℕ
   pub exponent : Exponent
 
 -- the parts keep to the grammar
-pub record AreParts (parts : Parts) : Type 0 where
+pub record AreParts (parts : NumberParts) : Type 0 where
   pub whole : IsWhole parts.whole
   pub fraction : AreDigits parts.fraction
   pub exponent : IsExponent parts.exponent
@@ -58,18 +58,18 @@ exponent_text no_exponent = []
 exponent_text (power mark sign digits) = mark ∷ sign_text sign ++ digits
 
 -- the text of the parts, one after the other
-abbrev pub number_text : Parts → List ℕ
+abbrev pub number_text : NumberParts → List ℕ
 number_text parts = minus_text parts.negative
     ++ (parts.whole ++ (fraction_text parts.fraction ++ exponent_text parts.exponent))
 
 -- the text is that of these parts
-pub record SpellsNumber (text : List ℕ) (parts : Parts) : Type 0 where
+pub record SpellsNumber (text : List ℕ) (parts : NumberParts) : Type 0 where
   pub are : AreParts parts
   pub is : text ≡ number_text parts
 
 -- a JSON number
 abbrev pub IsNumber : List ℕ → Type 0
-IsNumber text = (parts : Parts) × SpellsNumber text parts
+IsNumber text = (parts : NumberParts) × SpellsNumber text parts
 
 -- the number that digits write in base ten, after those that have given n
 abbrev pub digits_from : ℕ → List ℕ → ℕ
@@ -95,7 +95,7 @@ power_down (power mark minus digits) = digits_value digits
 power_down (power mark no_sign digits) = 0
 
 -- without its sign the number is n units of 10^-15; both sides are made whole by the powers that divide
-abbrev pub HasUnits : Parts → ℕ → Type 0
+abbrev pub HasUnits : NumberParts → ℕ → Type 0
 HasUnits parts n = digits_value (parts.whole ++ parts.fraction) * 10 ^ (15 + power_up parts.exponent)
     ≡ n * 10 ^ (length parts.fraction + power_down parts.exponent)
 
@@ -106,5 +106,5 @@ signed false n = pos n
 
 -- the number is `units` units of 10^-15
 abbrev pub IsUnits : List ℕ → ℤ → Type 0
-IsUnits text units = (parts : Parts) × SpellsNumber text parts × (n : ℕ) × HasUnits parts n
+IsUnits text units = (parts : NumberParts) × SpellsNumber text parts × (n : ℕ) × HasUnits parts n
     × (units ≡ signed parts.negative n)

@@ -5,7 +5,7 @@ ghost use Rattle.std.specs.Str.{all_scalars};
 ghost use Rattle.helix_json.specs.declared.class.Class.TheVariants as class_is;
 ghost use Rattle.helix_json.specs.Inner.Lexer.{class, mark_token, word_token};
 ghost use Rattle.helix_json.specs.Inner.Need.{kind_of_token};
-ghost use Rattle.helix_json.specs.Inner.Progress.{HoldsAt, LeadsOn};
+ghost use Rattle.helix_json.specs.Inner.Progress.{HoldsSoFarAt, LeadsOn};
 ghost use Rattle.helix_json.specs.Inner.Scanned.{IsScan};
 
 use crate::class::{Class, Mark, Word, class_of};
@@ -45,7 +45,7 @@ pub fn scan(alloc: Global, codes: &[u32]) -> Result<Scan, Memory>
 fn read(alloc: Global, codes: &[u32], at: usize, progress: &mut Progress) -> Result<Step, Memory>
     requires scalars { IsTrue (all_scalars codes.now) }
     requires within { at < length codes.now }
-    requires holds { HoldsAt codes.now at progress.old }
+    requires holds { HoldsSoFarAt codes.now at progress.old }
     ensures { IfOk result (LeadsOn codes.now at progress.new) }
 {
     match class_of(codes[at]) {
@@ -71,7 +71,7 @@ fn take_string(
 ) -> Result<Step, Memory>
     requires scalars { IsTrue (all_scalars codes.now) }
     requires within { at < length codes.now }
-    requires holds { HoldsAt codes.now at progress.old }
+    requires holds { HoldsSoFarAt codes.now at progress.old }
     requires class_is { class (slice_index codes.now at) ≡ class_is.Quote }
     ensures { IfOk result (LeadsOn codes.now at progress.new) }
 {
@@ -89,7 +89,7 @@ fn take_string(
 
 fn take_word(codes: &[u32], at: usize, word: Word, progress: &mut Progress) -> Result<Step, Memory>
     requires within { at < length codes.now }
-    requires holds { HoldsAt codes.now at progress.old }
+    requires holds { HoldsSoFarAt codes.now at progress.old }
     requires class_is { class (slice_index codes.now at) ≡ (class_is.Word word) }
     ensures { IfOk result (LeadsOn codes.now at progress.new) }
 {
@@ -113,7 +113,7 @@ fn take_number(
 ) -> Result<Step, Memory>
     requires scalars { IsTrue (all_scalars codes.now) }
     requires within { at < length codes.now }
-    requires holds { HoldsAt codes.now at progress.old }
+    requires holds { HoldsSoFarAt codes.now at progress.old }
     requires class_is { class (slice_index codes.now at) ≡ class_is.Other }
     ensures { IfOk result (LeadsOn codes.now at progress.new) }
 {

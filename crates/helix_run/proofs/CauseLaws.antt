@@ -14,7 +14,7 @@ use Rattle.helix_run.specs.Inner.Reading.{FailsToRead}
 use Rattle.helix_run.specs.Environment.{environment}
 use Rattle.helix_run.specs.Causes.{Cause, LacksProfile, OutputIsThere, ProfileIsRead}
 use Rattle.helix_run.specs.Inner.Outcome.{line_for, status_for, Tells, Generates}
-use Rattle.helix_run.proofs.Booleans.{both}
+use Rattle.std.proofs.lemmas.Bool.{and_parts}
 use Rattle.helix_run.proofs.Known.{Known, KnownWrite, known}
 
 none_if : {X : Type 0} (o : Option X) → is_none o ≡ true → o ≡ None
@@ -28,13 +28,13 @@ ordered_some words names e = subst IsSome (sym e) refl
 pub lacks_profile : (words : List (List ℕ)) (disk : DiskState) (names : Names) → order_of words ≡ Some names
     → is_missing disk names.profile ≡ true → LacksProfile words disk
 lacks_profile words disk names ordered missing =
-    let parts : (disk.told ≡ true) × (is_none (get disk.files names.profile) ≡ true) = both _ _ missing in
+    let parts : (disk.told ≡ true) × (is_none (get disk.files names.profile) ≡ true) = and_parts _ _ missing in
     record { told = parts.0; names = names; ordered = ordered; missing = none_if _ parts.1 }
 
 pub output_is_there : (words : List (List ℕ)) (disk : DiskState) (names : Names) → order_of words ≡ Some names
     → is_taken disk names.output false ≡ true → OutputIsThere words disk
 output_is_there words disk names ordered taken =
-    let parts : (disk.told ≡ true) × ((true && is_some (get disk.files names.output)) ≡ true) = both _ _ taken in
+    let parts : (disk.told ≡ true) × ((true && is_some (get disk.files names.output)) ≡ true) = and_parts _ _ taken in
     record { told = parts.0; names = names; ordered = ordered; there = parts.1 }
 
 -- a failure that isn't excused raised its count

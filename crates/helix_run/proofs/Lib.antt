@@ -1,4 +1,3 @@
-pub mod Booleans
 pub mod Putting
 pub mod WholeFile
 pub mod WholeInput

@@ -5,7 +5,7 @@ use Rattle.std.specs.Prelude.{IsTrue, if◌then◌else◌}
 use Rattle.std.specs.List.{list_all}
 use Rattle.helix_run.specs.Profile.{is_name_character, IsFlagName, quoted_before}
 use Rattle.helix_run.specs.Inner.Name.{name_length}
-use Rattle.helix_run.proofs.Booleans.{both, joined}
+use Rattle.std.proofs.lemmas.Bool.{and_parts, and_from}
 
 -- the characters at the start are a name's
 name_length_all : (bytes : List ℕ) → IsTrue (list_all is_name_character (take (name_length bytes) bytes))
@@ -13,7 +13,7 @@ name_length_all [] = refl
 name_length_all (byte ∷ bytes) =
     elim (is_name_character byte) as (λ b. is_name_character byte ≡ b
     → IsTrue (list_all is_name_character (take (if b then suc (name_length bytes) else 0) (byte ∷ bytes)))) [
-      | true ↦ λ e. joined _ _ e (name_length_all bytes)
+      | true ↦ λ e. and_from _ _ e (name_length_all bytes)
       | false ↦ λ e. refl
     ] refl
 
@@ -22,7 +22,7 @@ name_length_at : (name rest : List ℕ) → IsTrue (list_all is_name_character n
     → name_length (name ++ 34 ∷ rest) ≡ length name
 name_length_at [] rest all = refl
 name_length_at (byte ∷ name) rest all =
-    let parts : (is_name_character byte ≡ true) × (list_all is_name_character name ≡ true) = both _ _ all in
+    let parts : (is_name_character byte ≡ true) × (list_all is_name_character name ≡ true) = and_parts _ _ all in
     ap (λ b. if b then suc (name_length (name ++ 34 ∷ rest)) else 0) parts.0 ∙ ap suc (name_length_at name rest parts.1)
 
 -- what is so of bytes that begin with a name between quotes

@@ -4,7 +4,7 @@ use Rattle.std.specs.Prelude.{Some, None, IsTrue, ◌==◌, if◌then◌else◌,
 use Rattle.std.specs.List.{list_all}
 use Rattle.std.proofs.lemmas.Bool.{eqb-true}
 use Rattle.helix_run.specs.Profile.{Follows, is_space}
-use Rattle.helix_run.proofs.Booleans.{both, joined}
+use Rattle.std.proofs.lemmas.Bool.{and_parts, and_from}
 use Rattle.helix_run.specs.Inner.Pattern.{after, after_blanks, begins_settled, is_settled}
 
 -- the blanks at the start, and what is after them
@@ -16,7 +16,7 @@ front_blanks (byte ∷ bytes) =
     × (byte ∷ bytes ≡ blanks ++ (if b then after_blanks bytes else byte ∷ bytes))) [
       | true ↦ λ e. let more : (blanks : List ℕ) × IsTrue (list_all is_space blanks)
           × (bytes ≡ blanks ++ after_blanks bytes) = front_blanks bytes in
-          (byte ∷ more.0, joined _ _ e more.1, ap (λ s. byte ∷ s) more.2)
+          (byte ∷ more.0, and_from _ _ e more.1, ap (λ s. byte ∷ s) more.2)
       | false ↦ λ e. ([], refl, refl)
     ] refl
 
@@ -62,7 +62,7 @@ after_blanks-append : (blanks next : List ℕ) → IsTrue (list_all is_space bla
     → after_blanks (blanks ++ next) ≡ after_blanks next
 after_blanks-append [] next all = refl
 after_blanks-append (byte ∷ blanks) next all =
-    let parts : (is_space byte ≡ true) × (list_all is_space blanks ≡ true) = both _ _ all in
+    let parts : (is_space byte ≡ true) × (list_all is_space blanks ≡ true) = and_parts _ _ all in
     ap (λ b. if b then after_blanks (blanks ++ next) else byte ∷ (blanks ++ next)) parts.0
     ∙ after_blanks-append blanks next parts.1
 
@@ -115,7 +115,7 @@ after-from_Follows (expected ∷ pattern) bytes rest f settled =
     ((more : List ℕ) × (bytes ≡ expected ∷ more) × Follows pattern more rest)
     → after (expected ∷ pattern) bytes ≡ Some rest) [
       | true ↦ λ space settled f.
-          let parts : (begins_settled pattern rest ≡ true) × (is_settled pattern rest ≡ true) = both _ _ settled in
+          let parts : (begins_settled pattern rest ≡ true) × (is_settled pattern rest ≡ true) = and_parts _ _ settled in
           after-space expected pattern bytes space
           ∙ ap (λ bs. after pattern (after_blanks bs)) f.3
           ∙ ap (after pattern) (after_blanks-append f.0 f.1 f.2 ∙ settled_next pattern f.1 rest f.4 parts.0)

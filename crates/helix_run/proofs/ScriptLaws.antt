@@ -12,7 +12,7 @@ use Rattle.helix_run.specs.declared.outcome.Outcome.TheVariants.{Usage, ReadFaul
 use Rattle.helix_run.specs.declared.status.Status.{Status}
 use Rattle.helix_run.specs.declared.status.Status.TheVariants as status
 use Rattle.helix_run.specs.Words.{Names, order_of}
-use Rattle.helix_run.specs.Script.{Script, Ends, HasField, no_order, no_profile, refused, taken, written}
+use Rattle.helix_run.specs.Script.{Script, EndsAs, HasField, no_order, no_profile, refused, taken, written}
 use Rattle.helix_run.specs.Profile.{Field, ReadsProfile}
 use Rattle.helix_run.specs.Lines.{done_line}
 use Rattle.helix_run.specs.Environment.{environment, IsQuiet, FollowsScript}
@@ -29,7 +29,7 @@ shown_if_quiet before after line (Ok x) added quiet told = added.added told
 shown_if_quiet before after line (Err e) added quiet told = absurd (quiet added.faults.failed)
 
 ends : (answer : Status) (after left : FileMap) (line : List ℕ) → after ≡ left
-    → Ends answer after (line_text line) answer left line
+    → EndsAs answer after (line_text line) answer left line
 ends answer after left line files = record { status_is = refl; files_are = files; text_is = refl }
 
 -- two orders of the same words are the same

@@ -23,14 +23,14 @@ Follows (expected ∷ pattern) bytes rest = MatchBool (expected == 32)
     ((next : List ℕ) × (bytes ≡ expected ∷ next) × Follows pattern next rest)
 
 -- what comes before the field's name
-abbrev pub opening : List ℕ
-opening = codes " { \"fields\" : [ { \"name\" : "
+abbrev pub before_name : List ℕ
+before_name = codes " { \"fields\" : [ { \"name\" : "
 
 -- what comes after it, where `nullable` is left out or written
-abbrev pub closing : Option Bool → List ℕ
-closing None = codes " , \"type\" : \"boolean\" } ] , \"constraints\" : [ ] } "
-closing (Some true) = codes " , \"type\" : \"boolean\" , \"nullable\" : true } ] , \"constraints\" : [ ] } "
-closing (Some false) = codes " , \"type\" : \"boolean\" , \"nullable\" : false } ] , \"constraints\" : [ ] } "
+abbrev pub after_name : Option Bool → List ℕ
+after_name None = codes " , \"type\" : \"boolean\" } ] , \"constraints\" : [ ] } "
+after_name (Some true) = codes " , \"type\" : \"boolean\" , \"nullable\" : true } ] , \"constraints\" : [ ] } "
+after_name (Some false) = codes " , \"type\" : \"boolean\" , \"nullable\" : false } ] , \"constraints\" : [ ] } "
 
 -- from U+0020 to U+007E, and neither a quote nor a backslash
 abbrev pub is_name_character : ℕ → Bool
@@ -50,14 +50,14 @@ quoted_before name rest = 34 ∷ (name ++ 34 ∷ rest)
 pub record Closes (bytes : List ℕ) (nullable : Bool) : Type 0 where
   pub written : Option Bool
   pub says : nullable ≡ unwrap_or written true
-  pub closes : Follows (closing written) bytes []
+  pub closes : Follows (after_name written) bytes []
 
 -- the bytes of a profile file say that there is this field
 pub record ReadsProfile (bytes : List ℕ) (field : Field) : Type 0 where
   pub size : length bytes ≤ longest_profile
   pub name : IsFlagName field.name
   pub rest : List ℕ
-  pub opens : Follows opening bytes (quoted_before field.name rest)
+  pub opens : Follows before_name bytes (quoted_before field.name rest)
   pub closes : Closes rest field.nullable
 
 -- the bytes are no such profile

@@ -23,7 +23,7 @@ pub record HasField (words : List (List ℕ)) (files : FileMap) (names : Names) 
   pub reads : ReadsProfile bytes field
 
 -- how a run ends: with a status, the files that it leaves, and one line
-pub record Ends (status : Status) (after : FileMap) (text : List ℕ) (answer : Status) (left : FileMap)
+pub record EndsAs (status : Status) (after : FileMap) (text : List ℕ) (answer : Status) (left : FileMap)
     (line : List ℕ) : Type 0 where
   pub status_is : status ≡ answer
   pub files_are : after ≡ left
@@ -33,19 +33,19 @@ pub record Ends (status : Status) (after : FileMap) (text : List ℕ) (answer : 
 pub data Script (words : List (List ℕ)) (files : FileMap) (status : Status) (after : FileMap)
     (text : List ℕ) : Type 0 where
   -- the words give no order
-  no_order : order_of words ≡ None → Ends status after text Usage files usage_line
+  no_order : order_of words ≡ None → EndsAs status after text Usage files usage_line
       → Script words files status after text
   -- there is no profile file
   no_profile : (names : Names) → order_of words ≡ Some names → get files names.profile ≡ None
-      → Ends status after text ReadFault files read_fault_line → Script words files status after text
+      → EndsAs status after text ReadFault files read_fault_line → Script words files status after text
   -- the profile breaks a rule
   refused : (names : Names) (bytes : List ℕ) → HasProfile words files names bytes → IsRefused bytes
-      → Ends status after text ProfileRefused files refused_line → Script words files status after text
+      → EndsAs status after text ProfileRefused files refused_line → Script words files status after text
   -- the output is there already
   taken : (names : Names) (field : Field) → HasField words files names field → IsSome (get files names.output)
-      → Ends status after text WriteFault files write_fault_line → Script words files status after text
+      → EndsAs status after text WriteFault files write_fault_line → Script words files status after text
   -- else the output holds exactly the good rows, each once, in ascending order
   written : (names : Names) (field : Field) (rows : List (List Flag)) → HasField words files names field
       → get files names.output ≡ None → IsFlagAnswer field rows
-      → Ends status after text Done (insert files names.output (csv_text field.name rows)) (done_line (length rows))
+      → EndsAs status after text Done (insert files names.output (csv_text field.name rows)) (done_line (length rows))
       → Script words files status after text

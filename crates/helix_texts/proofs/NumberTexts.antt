@@ -1,12 +1,12 @@
 -- The written form of a number spells it, and a text spells one number at most.
 use Rattle.std.proofs.Common.{◌≡◌, ◌≢◌, ℕ, ◌+◌, ◌*◌, ◌/◌, ◌%◌, ◌^◌, ◌≤◌, ℤ, pos, negsuc, List, [], ◌∷◌, ◌++◌, length, Bool, true, false, inl, inr, decimal, refl, sym, ap, ◌∙◌, subst, arith}
 use Rattle.std.specs.Prelude.{unsigned_abs}
-use Rattle.helix_json.specs.Numbers.{IsWhole, Parts, SpellsNumber, Exponent, no_exponent, power, plus, minus, no_sign, IsExponent, fraction_text, exponent_text, minus_text, digits_from, digits_value, HasUnits, signed, IsUnits}
+use Rattle.helix_json.specs.Numbers.{IsWhole, NumberParts, SpellsNumber, Exponent, no_exponent, power, plus, minus, no_sign, IsExponent, fraction_text, exponent_text, minus_text, digits_from, digits_value, HasUnits, signed, IsUnits}
 use Rattle.helix_base.specs.Digits.{AreDigits}
 use Rattle.helix_base.specs.Inner.DigitLaws.{digit_bounds}
 use Rattle.helix_json.specs.Inner.Pieces.{NoDigit, TakesSign, TakesFraction, TakesExponent, Found, AreUnits}
 use Rattle.helix_json.specs.Inner.DecimalLaws.{from-append, cancel}
-use Rattle.helix_json.specs.Inner.PartsLaws.{parts_found, units_found}
+use Rattle.helix_json.specs.Inner.PartsLaws.{parts_found, units_found, whole_digits, exponent_no_digit, tail_no_digit, no_point}
 use Rattle.std.proofs.lemmas.Nat.{pow-add}
 use Rattle.std.proofs.lemmas.List.{append-nil}
 use Rattle.helix_texts.specs.Texts.{last_digits, without_zeros, is_negative, one, units_text}
@@ -18,7 +18,7 @@ signed_itself (pos n) = refl
 signed_itself (negsuc n) = refl
 
 -- the parts that a number is written with
-parts_of : ℤ → Parts
+parts_of : ℤ → NumberParts
 parts_of u = record {
   negative = is_negative u;
   whole = decimal (unsigned_abs u / one);
@@ -73,24 +73,6 @@ number_spells u within = (
   signed_itself u,
 )
 
-whole_digits : (cs : List ℕ) → IsWhole cs → AreDigits cs
-whole_digits [] whole = absurd whole
-whole_digits (c ∷ cs) whole = (whole.0, whole.1)
-
-exponent_begins : (e : Exponent) → IsExponent e → NoDigit (exponent_text e)
-exponent_begins no_exponent is = tt
-exponent_begins (power mark sign digits) is = λ d.
-    let b : (48 ≤ mark) × (mark ≤ 57) = digit_bounds mark d in elim is.0 [ inl e ↦ omega arith | inr e ↦ omega arith ]
-
-after_begins : (fraction : List ℕ) (e : Exponent) → IsExponent e → NoDigit (fraction_text fraction ++ exponent_text e)
-after_begins [] e is = exponent_begins e is
-after_begins (c ∷ cs) e is = λ d. let b : (48 ≤ 46) × (46 ≤ 57) = digit_bounds 46 d in omega arith
-
-no_point : (e : Exponent) → IsExponent e → (more : List ℕ) → exponent_text e ≢ 46 ∷ more
-no_point no_exponent is more begins = cc
-no_point (power mark sign digits) is more begins =
-    let m : mark ≡ 46 = cc in elim is.0 [ inl e ↦ omega arith | inr e ↦ omega arith ]
-
 -- a number is taken apart into what it was written with
 sign_taken : (negative : Bool) (whole after : List ℕ) → IsWhole whole
     → TakesSign (minus_text negative ++ (whole ++ after)) negative (whole ++ after)
@@ -106,7 +88,7 @@ fraction_taken : (fraction : List ℕ) (e : Exponent) → AreDigits fraction →
     → TakesFraction (fraction_text fraction ++ exponent_text e) fraction (exponent_text e)
 fraction_taken [] e digits is = ((λ more begins. absurd (no_point e is more begins)), λ none. (refl, refl))
 fraction_taken (c ∷ cs) e digits is = (
-  (λ more begins. ((let same : c ∷ cs ++ exponent_text e ≡ more = cc in sym same), digits, exponent_begins e is)),
+  (λ more begins. ((let same : c ∷ cs ++ exponent_text e ≡ more = cc in sym same), digits, exponent_no_digit e is)),
   λ none. absurd (none (c ∷ cs ++ exponent_text e) refl),
 )
 
@@ -129,7 +111,7 @@ exponent_taken (power mark no_sign (d ∷ ds)) is =
     let k : (48 ≤ d) × (d ≤ 57) = digit_bounds d is.2.0 in
     ((λ e. omega arith), ((λ e. absurd (omega arith)), λ ne. refl))
 
-found : (text : List ℕ) (p q : Parts) → SpellsNumber text p → SpellsNumber text q
+found : (text : List ℕ) (p q : NumberParts) → SpellsNumber text p → SpellsNumber text q
     → Found q p.negative p.whole p.fraction (lowers_of p.exponent) (digits_of p.exponent)
 found text p q first second =
     let after = fraction_text p.fraction ++ exponent_text p.exponent in
@@ -137,7 +119,7 @@ found text p q first second =
     p.negative (lowers_of p.exponent)
     (subst (λ t. TakesSign t p.negative (p.whole ++ after)) (sym first.is)
     (sign_taken p.negative p.whole after first.are.whole)) refl
-    (whole_digits p.whole first.are.whole) (after_begins p.fraction p.exponent first.are.exponent)
+    (whole_digits p.whole first.are.whole) (tail_no_digit p.fraction p.exponent first.are.exponent)
     (fraction_taken p.fraction p.exponent first.are.fraction first.are.exponent)
     (exponent_taken p.exponent first.are.exponent) q second
 

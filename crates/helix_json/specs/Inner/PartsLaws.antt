@@ -1,6 +1,6 @@
 -- The parts of a number are found one after the other: lemmas for this crate and for those above that read numbers.
 use Rattle.std.proofs.Common.{◌≡◌, ◌≢◌, ℕ, ◌+◌, ◌*◌, ◌^◌, ◌≤◌, ◌↔◌, inl, inr, List, [], ◌∷◌, ◌++◌, length, Bool, true, false, refl, sym, ◌∙◌, ap, subst, arith}
-use Rattle.helix_json.specs.Numbers.{Parts, Exponent, no_exponent, power, plus, minus, no_sign, IsWhole, IsExponent, SpellsNumber, fraction_text, exponent_text, minus_text, power_up, power_down, digits_value, HasUnits}
+use Rattle.helix_json.specs.Numbers.{NumberParts, Exponent, no_exponent, power, plus, minus, no_sign, IsWhole, IsExponent, SpellsNumber, fraction_text, exponent_text, minus_text, power_up, power_down, digits_value, HasUnits}
 use Rattle.helix_base.specs.Digits.{AreDigits}
 use Rattle.helix_json.specs.Inner.Pieces.{NoDigit, TakesSign, TakesFraction, TakesExponent, ExponentIs, Found, AreUnits}
 use Rattle.helix_base.specs.Inner.DigitLaws.{digit_bounds}
@@ -17,20 +17,20 @@ digits_unique (x ∷ a) b (y ∷ c) d ha hb hc hd e =
     let rest : (a ≡ c) × (b ≡ d) = digits_unique a b c d ha.1 hb hc.1 hd tail in
     ((let p : a ≡ c = rest.0 in cc), rest.1)
 
-whole_digits : (cs : List ℕ) → IsWhole cs → AreDigits cs
+pub whole_digits : (cs : List ℕ) → IsWhole cs → AreDigits cs
 whole_digits [] h = absurd h
 whole_digits (c ∷ cs) h = (h.0, h.1)
 
-exponent_no_digit : (e : Exponent) → IsExponent e → NoDigit (exponent_text e)
+pub exponent_no_digit : (e : Exponent) → IsExponent e → NoDigit (exponent_text e)
 exponent_no_digit no_exponent h = tt
 exponent_no_digit (power mark sign digits) h = λ d.
     let b : (48 ≤ mark) × (mark ≤ 57) = digit_bounds mark d in elim h.0 [ inl e ↦ omega arith | inr e ↦ omega arith ]
 
-tail_no_digit : (fraction : List ℕ) (e : Exponent) → IsExponent e → NoDigit (fraction_text fraction ++ exponent_text e)
+pub tail_no_digit : (fraction : List ℕ) (e : Exponent) → IsExponent e → NoDigit (fraction_text fraction ++ exponent_text e)
 tail_no_digit [] e h = exponent_no_digit e h
 tail_no_digit (c ∷ cs) e h = λ d. let b : (48 ≤ 46) × (46 ≤ 57) = digit_bounds 46 d in omega arith
 
-no_point : (e : Exponent) → IsExponent e → (more : List ℕ) → exponent_text e ≢ 46 ∷ more
+pub no_point : (e : Exponent) → IsExponent e → (more : List ℕ) → exponent_text e ≢ 46 ∷ more
 no_point no_exponent h more is = cc
 no_point (power mark sign digits) h more is =
     let m : mark ≡ 46 = cc in elim h.0 [ inl e ↦ omega arith | inr e ↦ omega arith ]
@@ -95,7 +95,7 @@ pub parts_found : (text unsigned whole later fraction last digits : List ℕ) (n
     → TakesSign text negative unsigned
     → unsigned ≡ whole ++ later → AreDigits whole → NoDigit later → TakesFraction later fraction last
     → TakesExponent last lowers digits
-    → (parts : Parts) → SpellsNumber text parts → Found parts negative whole fraction lowers digits
+    → (parts : NumberParts) → SpellsNumber text parts → Found parts negative whole fraction lowers digits
 parts_found text unsigned whole later fraction last digits negative lowers sign is all stops point exponent parts
     spells =
     let tail : List ℕ = fraction_text parts.fraction ++ exponent_text parts.exponent in
@@ -127,7 +127,7 @@ length_sum : (a b : List ℕ) {j k : ℕ} → a ≡ b → j ≡ k → length a +
 length_sum a b {j} {k} e f = ap (λ x. length x + j) e ∙ ap (λ x. length b + x) f
 
 -- and has those units
-pub units_found : (parts : Parts) (negative : Bool) (whole fraction digits : List ℕ) (lowers : Bool) (n : ℕ)
+pub units_found : (parts : NumberParts) (negative : Bool) (whole fraction digits : List ℕ) (lowers : Bool) (n : ℕ)
     → Found parts negative whole fraction lowers digits
     → HasUnits parts n ↔ AreUnits (digits_value (whole ++ fraction)) (length fraction) lowers (digits_value digits) n
 units_found parts negative whole fraction digits true n found =

@@ -1,6 +1,6 @@
 -- What the parts of `number_units` promise each other.
 use Rattle.std.specs.Prelude.{IsTrue, ◌≡◌, ◌≢◌, ℕ, ◌+◌, ◌*◌, ◌^◌, ◌%◌, ◌≤◌, Bool, true, false, List, [], ◌∷◌, ◌++◌}
-use Rattle.helix_json.specs.Numbers.{Parts, Exponent, power_up, power_down, digits_value}
+use Rattle.helix_json.specs.Numbers.{NumberParts, Exponent, power_up, power_down, digits_value}
 use Rattle.helix_base.specs.Digits.{is_digit, AreDigits}
 
 -- the list begins with no digit
@@ -47,7 +47,7 @@ pub record ExponentIs (exponent : Exponent) (lowers : Bool) (digits : List ℕ) 
   pub when_lowered : lowers ≡ true → (power_up exponent ≡ 0) × (power_down exponent ≡ digits_value digits)
 
 -- these are the parts of a number
-pub record Found (parts : Parts) (negative : Bool) (whole fraction : List ℕ) (lowers : Bool) (digits : List ℕ) : Type 0
+pub record Found (parts : NumberParts) (negative : Bool) (whole fraction : List ℕ) (lowers : Bool) (digits : List ℕ) : Type 0
   where
     pub negative_is : negative ≡ parts.negative
     pub whole_is : whole ≡ parts.whole

@@ -52,16 +52,16 @@ AllBegin text before (t ∷ ts) [] = ⊥
 AllBegin text before (t ∷ ts) (p ∷ ps) = Begins text before p × AllBegin text (before ++ t ∷ []) ts ps
 
 -- what is kept between two tokens
-pub record Holds (text : List ℕ) (at : ℕ) (tokens : List Token) (offsets : List ℕ) (nest : Nest) : Type 0 where
+pub record HoldsSoFar (text : List ℕ) (at : ℕ) (tokens : List Token) (offsets : List ℕ) (nest : Nest) : Type 0 where
   pub reading : Reading
   pub is_read : IsReadTo text at tokens reading
   pub tracks : Tracks nest reading
   pub begin : AllBegin text [] tokens offsets
 
-abbrev pub HoldsAt : List ℕ → ℕ → Progress → Type 0
-HoldsAt text at p = Holds text at p.tokens.items p.offsets.items p.nest
+abbrev pub HoldsSoFarAt : List ℕ → ℕ → Progress → Type 0
+HoldsSoFarAt text at p = HoldsSoFar text at p.tokens.items p.offsets.items p.nest
 
 -- where a token or a blank leads
 abbrev pub LeadsOn : List ℕ → ℕ → Progress → Step → Type 0
-LeadsOn text at new (step_is.On next) = (at < next) × HoldsAt text next new
+LeadsOn text at new (step_is.On next) = (at < next) × HoldsSoFarAt text next new
 LeadsOn text at new (step_is.SyntaxError count) = IsSyntaxErrorAt IsJsonText text count
