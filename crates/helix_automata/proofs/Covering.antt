@@ -1,6 +1,6 @@
 -- Arcs in order lead on from all characters, each arc from one, where one after the other holds the least character that is left.
 use Rattle.std.proofs.Common.{◌≡◌, ◌↔◌, ◌⊎◌, inl, inr, ℕ, ◌+◌, ◌<◌, ◌≤◌, Bool, true, false, Option, Some, None, List, [], ◌∷◌, All, is_some, not, length, ◌&&◌, nat_le, arith, refl, sym, ◌∙◌, subst}
-use Rattle.std.proofs.lemmas.Bool.{leb-true, le-leb, cond-true, cond-false, cases_lt}
+use Rattle.std.proofs.lemmas.Bool.{leb-true, le-leb, and_parts, and_from, cond-true, cond-false, cases_lt}
 use Rattle.std.proofs.lemmas.List.Elements.{All-cons, All-head, All-tail, All-nil}
 use Rattle.std.specs.Prelude.{IsTrue}
 use Rattle.helix_base.specs.Alphabet.{ranges_of}
@@ -10,23 +10,16 @@ use Rattle.helix_automata.specs.declared.arc.Arc.{Arc}
 use Rattle.helix_automata.specs.Automaton.{holds, target}
 use Rattle.helix_automata.specs.Shape.{IsNextCharacter, AreInOrder, HasCharacter, LeadOn}
 
-both : (a b : Bool) → (a && b) ≡ true → (a ≡ true) × (b ≡ true)
-both true b e = (refl, e)
-both false b e = cc
-
-joined : (a b : Bool) → a ≡ true → b ≡ true → (a && b) ≡ true
-joined a b e f = cc
-
 pub not_true : (b : Bool) → (b ≡ true → ⊥) → b ≡ false
 not_true true f = absurd (f refl)
 not_true false f = refl
 
 -- what an arc holds
 pub held : (code : ℕ) (arc : Arc) → holds code arc ≡ true → (arc.first ≤ code) × (code ≤ arc.last)
-held code arc e = let parts = both (nat_le arc.first code) (nat_le code arc.last) e in (leb-true arc.first code parts.0, leb-true code arc.last parts.1)
+held code arc e = let parts = and_parts (nat_le arc.first code) (nat_le code arc.last) e in (leb-true arc.first code parts.0, leb-true code arc.last parts.1)
 
 pub held_within : (code : ℕ) (arc : Arc) → arc.first ≤ code → code ≤ arc.last → holds code arc ≡ true
-held_within code arc low high = joined (nat_le arc.first code) (nat_le code arc.last) (le-leb arc.first code low) (le-leb code arc.last high)
+held_within code arc low high = and_from (nat_le arc.first code) (nat_le code arc.last) (le-leb arc.first code low) (le-leb code arc.last high)
 
 pub not_above : (code : ℕ) (arc : Arc) → arc.last < code → holds code arc ≡ false
 not_above code arc above = not_true (holds code arc) (λ e. let h = held code arc e in omega (arith, h.1))
@@ -41,17 +34,17 @@ target_here code arc arcs e = cond-true (holds code arc) _ _ e
 pub target_on : (code : ℕ) (arc : Arc) (arcs : List Arc) → holds code arc ≡ false → target (arc ∷ arcs) code ≡ target arcs code
 target_on code arc arcs e = cond-false (holds code arc) _ _ e
 
--- an arc with a character isn't turned round
-pub not_turned : (arc : Arc) → HasCharacter arc → arc.first ≤ arc.last
-not_turned arc (code, character, e) = let h = held code arc e in omega (arith, h.0, h.1)
+-- an arc with a character isn't reversed
+pub not_reversed : (arc : Arc) → HasCharacter arc → arc.first ≤ arc.last
+not_reversed arc (code, character, e) = let h = held code arc e in omega (arith, h.0, h.1)
 
--- behind an arc no arc holds what isn't above it
-pub none_behind : (arc : Arc) (arcs : List Arc) (code : ℕ) → AreInOrder (arc ∷ arcs) → All HasCharacter arcs → code ≤ arc.last → target arcs code ≡ None
-none_behind arc [] code order used low = refl
-none_behind arc (next ∷ arcs) code order used low =
-    let right : next.first ≤ next.last = not_turned next (All-head HasCharacter next arcs used) in
+-- after an arc no arc holds what isn't above it
+pub none_after_it : (arc : Arc) (arcs : List Arc) (code : ℕ) → AreInOrder (arc ∷ arcs) → All HasCharacter arcs → code ≤ arc.last → target arcs code ≡ None
+none_after_it arc [] code order used low = refl
+none_after_it arc (next ∷ arcs) code order used low =
+    let right : next.first ≤ next.last = not_reversed next (All-head HasCharacter next arcs used) in
     target_on code next arcs (not_below code next (omega (arith, order.0)))
-    ∙ none_behind next arcs code order.1 (All-tail HasCharacter next arcs used) (omega (arith, order.0, right))
+    ∙ none_after_it next arcs code order.1 (All-tail HasCharacter next arcs used) (omega (arith, order.0, right))
 
 pub none_some : {X : Type 0} (x : X) → None ≡ Some x → ⊥
 none_some x e = cc
@@ -111,14 +104,14 @@ module _ (bound : ℕ) (arc : Arc) (rest : List Arc) where
   none_left ends begins h = let (code, character, e) = All-head HasCharacter arc rest h.1 in
       let within = held code arc e in ends code character (omega (arith, within.0))
 
-  -- the least character that is left stands before the arc
+  -- the least character that is left is before the arc
   pub left_out : (c : ℕ) → IsLeastFrom (ranges_of Unicode) bound c → AreInOrder (arc ∷ rest) → c < arc.first → ¬ (Covers bound (arc ∷ rest))
   left_out c least order below h =
       let (next, is) = h.0 c least.listed least.reached in
-      let right : arc.first ≤ arc.last = not_turned arc (All-head HasCharacter arc rest h.1) in
-      none_some next (sym (target_on c arc rest (not_below c arc below) ∙ none_behind arc rest c order (All-tail HasCharacter arc rest h.1) (omega (arith, right))) ∙ is)
+      let right : arc.first ≤ arc.last = not_reversed arc (All-head HasCharacter arc rest h.1) in
+      none_some next (sym (target_on c arc rest (not_below c arc below) ∙ none_after_it arc rest c order (All-tail HasCharacter arc rest h.1) (omega (arith, right))) ∙ is)
 
-  -- or behind it
+  -- or after it
   pub unused : (c : ℕ) → IsLeastFrom (ranges_of Unicode) bound c → bound ≤ arc.first → arc.last < c → ¬ (Covers bound (arc ∷ rest))
   unused c least begins above h = let (code, character, e) = All-head HasCharacter arc rest h.1 in
       let within = held code arc e in
@@ -133,7 +126,7 @@ module _ (arcs rest : List Arc) where
       begins_at_zero [] = tt
       begins_at_zero (arc ∷ l) = omega arith
 
-  -- behind one more
+  -- after one more
   pub left_more : (arc : Arc) (c : ℕ) (wanted : Option ℕ) → Left arcs (arc ∷ rest) (Some c) → arc.first ≤ c → c ≤ arc.last
       → IsNextCharacter (arc.last + 1) wanted → Left arcs rest wanted
   left_more arc c wanted left low high next =
@@ -153,7 +146,7 @@ module _ (arcs rest : List Arc) where
   left_wrong arc c left (inl below) h = left_out left.bound arc rest c left.next.some left.order below (left.same.1 h)
   left_wrong arc c left (inr above) h = unused left.bound arc rest c left.next.some left.begins above (left.same.1 h)
 
--- behind the last arc
+-- after the last arc
 pub left_end : (arcs : List Arc) → Left arcs [] None → Covers 0 arcs
 left_end arcs left = left.same.0 ((λ code character low. absurd (left.next.none code character low)), All-nil HasCharacter)
 

@@ -7,14 +7,14 @@ use Rattle.std.specs.List.Sorted.{IsNonDecreasingBy, IsPartitionPoint}
 use Rattle.helix_automata.specs.declared.arc.Arc.{Arc}
 use Rattle.helix_automata.specs.Automaton.{holds, target}
 use Rattle.helix_automata.specs.Shape.{AreInOrder, HasCharacter}
-use Rattle.helix_automata.proofs.Covering.{not_above, not_turned, target_here, target_on, none_behind, none_some, order_tail}
+use Rattle.helix_automata.proofs.Covering.{not_above, not_reversed, target_here, target_on, none_after_it, none_some, order_tail}
 
 -- the ends of arcs rise
 rising : (arcs : List Arc) (k : ℕ) (d : Arc) → AreInOrder arcs → All HasCharacter arcs → suc k < length arcs → (get_or arcs k d).last ≤ (get_or arcs (suc k) d).last
 rising [] k d order used within = omega arith
 rising (arc ∷ []) k d order used within = omega arith
 rising (arc ∷ next ∷ arcs) zero d order used within =
-    let right : next.first ≤ next.last = not_turned next (All-head HasCharacter next arcs (All-tail HasCharacter arc (next ∷ arcs) used)) in omega (arith, order.0)
+    let right : next.first ≤ next.last = not_reversed next (All-head HasCharacter next arcs (All-tail HasCharacter arc (next ∷ arcs) used)) in omega (arith, order.0)
 rising (arc ∷ next ∷ arcs) (suc k) d order used within = rising (next ∷ arcs) k d order.1 (All-tail HasCharacter arc (next ∷ arcs) used) (omega arith)
 
 pub ends_rise : (arcs : List Arc) → AreInOrder arcs → All HasCharacter arcs → IsNonDecreasingBy (λ arc. arc.last) arcs
@@ -39,7 +39,7 @@ begins_above arcs i (suc k) d order used less within =
 abbrev pub ends_below : ℕ → Arc → Bool
 ends_below code arc = nat_lt arc.last code
 
--- what the arc behind all that end below a code is
+-- what the arc after all that end below a code is
 pub record IsArcAt (arcs : List Arc) (code at : ℕ) : Type 0 where
   pub within : at < length arcs
   pub held : (d : Arc) → holds code (get_or arcs at d) ≡ true
@@ -49,7 +49,7 @@ here_by : (arc : Arc) (arcs : List Arc) (code next : ℕ) (b : Bool) → holds c
     → target (arc ∷ arcs) code ≡ Some next → IsArcAt (arc ∷ arcs) code 0
 here_by arc arcs code next true e low order used leads = record { within = omega arith; held = λ d. e; leads = λ d. target_here code arc arcs e }
 here_by arc arcs code next false e low order used leads =
-    absurd (none_some next (sym (target_on code arc arcs e ∙ none_behind arc arcs code order (All-tail HasCharacter arc arcs used) low) ∙ leads))
+    absurd (none_some next (sym (target_on code arc arcs e ∙ none_after_it arc arcs code order (All-tail HasCharacter arc arcs used) low) ∙ leads))
 
 pub found : (arcs : List Arc) (code at next : ℕ) → AreInOrder arcs → All HasCharacter arcs → target arcs code ≡ Some next
     → IsPartitionPoint (λ y. ends_below code y ≡ true) (λ y. ends_below code y ≡ false) arcs at → IsArcAt arcs code at

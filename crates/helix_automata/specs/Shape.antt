@@ -29,14 +29,15 @@ HasCharacter arc = (code : ℕ) × IsCharacter code × IsTrue (holds code arc)
 abbrev pub LeadOn : ℕ → List Arc → Type 0
 LeadOn bound arcs = (code : ℕ) → IsCharacter code → bound ≤ code → (next : ℕ) × (target arcs code ≡ Some next)
 
--- the arcs of a state of an automaton with so many states
+-- the arcs of a state of an automaton with n states
 pub record AreArcs (states : ℕ) (arcs : List Arc) : Type 0 where
   pub in_order : AreInOrder arcs
   pub lead_on : LeadOn 0 arcs
   pub used : All HasCharacter arcs
   pub named : All (λ arc. arc.to < states) arcs
 
-pub record HasShape (automaton : Automaton) : Type 0 where
+-- the start is a state, each state has a flag and arcs, and 32 bits are enough for the numbers of the states
+pub record IsWellFormed (automaton : Automaton) : Type 0 where
   pub some : 0 < length automaton.moves
   pub few : length automaton.moves < 2 ^ 32
   pub flags : length automaton.accepting ≡ length automaton.moves

@@ -7,17 +7,16 @@
 
 mod arc;
 mod dfa;
-mod lists;
-mod moving;
-mod pairs;
+mod explore;
+mod lookup;
+mod numbered;
 mod product;
 mod row;
 mod shape;
 
-pub use arc::Arc;
+pub use arc::{Arc, Arcs, Flags, Moves};
 pub use dfa::{Dfa, DfaFault};
-pub use lists::{Arcs, Flags, Moves};
-pub use row::Row;
+pub use explore::{Machine, explore};
 
 #[cfg(test)]
 mod tests;

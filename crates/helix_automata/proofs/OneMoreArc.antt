@@ -7,43 +7,43 @@ use Rattle.helix_base.specs.Ranges.{IsLeastFrom}
 use Rattle.helix_automata.specs.declared.arc.Arc.{Arc}
 use Rattle.helix_automata.specs.Automaton.{target}
 use Rattle.helix_automata.specs.Shape.{IsCharacter, IsNextCharacter, HasCharacter}
-use Rattle.helix_automata.specs.Joining.{joined}
-use Rattle.helix_automata.specs.Row.{Begun, IsBegun, LeadsMore}
+use Rattle.helix_automata.specs.Inner.WithArc.{with_arc}
+use Rattle.helix_automata.specs.Inner.Row.{Begun, IsBegun, LeadsMore}
 use Rattle.helix_automata.proofs.Covering.{held, held_within}
-use Rattle.helix_automata.proofs.Joins.{widened, EndsBelow, joined_all, joined_in_order, joined_keeps, joined_new}
+use Rattle.helix_automata.proofs.WithArcs.{widened, EndsBelow, with_arc-all, with_arc-in_order, with_arc-keeps, with_arc-new}
 
 module _ (row : List Arc) (wanted after : Option ℕ) (arc : Arc) (begun : IsBegun (record { arcs = row; next = wanted }))
     (is : wanted ≡ Some arc.first) (order : arc.first ≤ arc.last) (next : IsNextCharacter (arc.last + 1) after) where
   least : IsLeastFrom (ranges_of Unicode) begun.bound arc.first
   least = (subst (λ w. IsNextCharacter begun.bound w) is begun.next).some
 
-  leads_new : (code : ℕ) → arc.first ≤ code → code ≤ arc.last → target (joined row arc) code ≡ Some arc.to
-  leads_new code low high = joined_new arc begun.bound least.reached row code (held_within code arc low high) begun.ends begun.used
+  leads_new : (code : ℕ) → arc.first ≤ code → code ≤ arc.last → target (with_arc row arc) code ≡ Some arc.to
+  leads_new code low high = with_arc-new arc begun.bound least.reached row code (held_within code arc low high) begun.ends begun.used
 
-  lead_on : (code : ℕ) → IsCharacter code → code < arc.last + 1 → (state : ℕ) × (target (joined row arc) code ≡ Some state)
+  lead_on : (code : ℕ) → IsCharacter code → code < arc.last + 1 → (state : ℕ) × (target (with_arc row arc) code ≡ Some state)
   lead_on code character below = elim (cases_lt code begun.bound) [
     | inl less ↦ (let (state, leads) = begun.lead_on code character less in
-        (state, joined_keeps arc begun.bound least.reached row code state order begun.ends leads))
+        (state, with_arc-keeps arc begun.bound least.reached row code state order begun.ends leads))
     | inr above ↦ (let low = least.least code character above in (arc.to, leads_new code low (omega (arith, below))))
   ]
 
-  pub begun_more : IsBegun (record { arcs = joined row arc; next = after })
+  pub begun_more : IsBegun (record { arcs = with_arc row arc; next = after })
   begun_more = record {
     bound = arc.last + 1;
     next = next;
-    in_order = joined_in_order arc begun.bound least.reached row begun.in_order begun.ends;
-    used = joined_all HasCharacter (λ a. HasCharacter a × EndsBelow begun.bound a) arc (arc.first, least.listed, held_within arc.first arc (omega arith) order)
+    in_order = with_arc-in_order arc begun.bound least.reached row begun.in_order begun.ends;
+    used = with_arc-all HasCharacter (λ a. HasCharacter a × EndsBelow begun.bound a) arc (arc.first, least.listed, held_within arc.first arc (omega arith) order)
         (λ a q. q.0) (λ a q. let h = held q.0.0 a q.0.2 in let e = q.1 in let b = least.reached in
         (q.0.0, q.0.1, held_within q.0.0 (widened a arc) h.0 (omega (arith, h.1, e, b, order)))) row (λ k e below. (begun.used k e below, begun.ends k e below));
-    ends = joined_all (EndsBelow (arc.last + 1)) (EndsBelow begun.bound) arc (omega arith)
+    ends = with_arc-all (EndsBelow (arc.last + 1)) (EndsBelow begun.bound) arc (omega arith)
         (λ a q. let b = least.reached in omega (arith, q, b, order)) (λ a q. omega arith) row begun.ends;
     lead_on = lead_on;
   }
 
-  pub leads_more : (old : Begun) → record { arcs = row; next = wanted } ≡ old → LeadsMore old arc (record { arcs = joined row arc; next = after })
-  leads_more old view = subst (λ r. LeadsMore r arc (record { arcs = joined row arc; next = after })) view (record {
+  pub leads_more : (old : Begun) → record { arcs = row; next = wanted } ≡ old → LeadsMore old arc (record { arcs = with_arc row arc; next = after })
+  leads_more old view = subst (λ r. LeadsMore r arc (record { arcs = with_arc row arc; next = after })) view (record {
     next = next;
-    keeps = λ code state leads. joined_keeps arc begun.bound least.reached row code state order begun.ends leads;
+    keeps = λ code state leads. with_arc-keeps arc begun.bound least.reached row code state order begun.ends leads;
     leads = leads_new;
-    named = λ states low named. joined_all (λ a. a.to < states) (λ a. a.to < states) arc low (λ a q. q) (λ a q. q) row named;
+    named = λ states low named. with_arc-all (λ a. a.to < states) (λ a. a.to < states) arc low (λ a q. q) (λ a q. q) row named;
   })

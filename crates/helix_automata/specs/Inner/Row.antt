@@ -18,7 +18,7 @@ pub record IsBegun (row : Begun) : Type 0 where
   pub ends : All (λ arc. arc.last < bound) row.arcs
   pub lead_on : (code : ℕ) → IsCharacter code → code < bound → (state : ℕ) × (target row.arcs code ≡ Some state)
 
--- each arc leads to one of so many states
+-- each arc leads to one of n states
 abbrev pub AreNamed : ℕ → List Arc → Type 0
 AreNamed states arcs = All (λ arc. arc.to < states) arcs
 

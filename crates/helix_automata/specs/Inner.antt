@@ -1,0 +1,4 @@
+pub mod Explore
+pub mod Lookup
+pub mod Row
+pub mod WithArc
