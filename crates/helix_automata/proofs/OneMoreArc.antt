@@ -1,14 +1,14 @@
 -- One more arc, from the next character on.
-use Rattle.std.proofs.Common.{◌≡◌, ℕ, ◌+◌, ◌<◌, ◌≤◌, inl, inr, Option, Some, List, subst, arith}
+use Rattle.std.proofs.Common.{◌≡◌, ℕ, ◌+◌, ◌<◌, ◌≤◌, inl, inr, Option, Some, None, List, subst, arith}
 use Rattle.std.proofs.lemmas.Bool.{cases_lt}
 use Rattle.helix_base.specs.Alphabet.{ranges_of}
 use Rattle.helix_base.specs.declared.alphabet.Alphabet.TheVariants.{Unicode}
 use Rattle.helix_base.specs.Ranges.{IsLeastFrom}
 use Rattle.helix_automata.specs.declared.arc.Arc.{Arc}
 use Rattle.helix_automata.specs.Automaton.{target}
-use Rattle.helix_automata.specs.Shape.{IsCharacter, IsNextCharacter, HasCharacter}
+use Rattle.helix_automata.specs.Shape.{IsCharacter, IsNextCharacter, HasCharacter, AreArcs}
 use Rattle.helix_automata.specs.Inner.WithArc.{with_arc}
-use Rattle.helix_automata.specs.Inner.Row.{Begun, IsBegun, LeadsMore}
+use Rattle.helix_automata.specs.Inner.Row.{Begun, IsBegun, AreNamed, LeadsMore}
 use Rattle.helix_automata.proofs.Covering.{held, held_within}
 use Rattle.helix_automata.proofs.WithArcs.{widened, EndsBelow, with_arc-all, with_arc-in_order, with_arc-keeps, with_arc-new}
 
@@ -47,3 +47,15 @@ module _ (row : List Arc) (wanted after : Option ℕ) (arc : Arc) (begun : IsBeg
     leads = leads_new;
     named = λ states low named. with_arc-all (λ a. a.to < states) (λ a. a.to < states) arc low (λ a q. q) (λ a q. q) row named;
   })
+
+-- all characters are held
+pub begun_all : (row : List Arc) (wanted : Option ℕ) → IsBegun (record { arcs = row; next = wanted }) → wanted ≡ None → (states : ℕ) → AreNamed states row → AreArcs states row
+begun_all row wanted begun none states named = record {
+  in_order = begun.in_order;
+  lead_on = λ code character low. begun.lead_on code character (elim (cases_lt code begun.bound) [
+    | inl less ↦ less
+    | inr above ↦ absurd ((subst (λ w. IsNextCharacter begun.bound w) none begun.next).none code character above)
+  ]);
+  used = begun.used;
+  named = named;
+}

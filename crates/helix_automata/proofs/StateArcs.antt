@@ -1,5 +1,5 @@
 -- The arcs of a state, made piece by piece.
-use Rattle.std.proofs.Common.{◌≡◌, ◌⊎◌, ◌↔◌, inl, inr, ℕ, ◌+◌, ◌-◌, ◌^◌, ◌<◌, ◌≤◌, Option, Some, None, List, [], ◌∷◌, ◌++◌, length, get_or, slice_get, ap, arith, sym, ◌∙◌, subst}
+use Rattle.std.proofs.Common.{◌≡◌, ◌⊎◌, ◌↔◌, inl, inr, ℕ, zero, suc, ◌+◌, ◌-◌, ◌^◌, ◌<◌, ◌≤◌, Option, Some, None, List, [], ◌∷◌, ◌++◌, length, get_or, slice_get, ap, arith, sym, ◌∙◌, subst}
 use Rattle.std.proofs.lemmas.Bool.{cases_lt}
 use Rattle.std.proofs.lemmas.Option.{slice_get_within, slice_get-get_or, same_Some, none-some}
 use Rattle.std.proofs.lemmas.List.{length-append, get_or_append_left}
@@ -135,3 +135,9 @@ walked_all IsState Words number start states row arcs walked none same shape sta
 abbrev pub codes_left : Option ℕ → ℕ
 codes_left None = 0
 codes_left (Some code) = 2 ^ 32 - code
+
+-- some state has the number
+pub none_within : {S : Type 0} (l : List S) (k : ℕ) → k < length l → slice_get l k ≡ None → ⊥
+none_within [] k within none = omega (arith, within)
+none_within (x ∷ l) zero within none = none-some x (sym none)
+none_within (x ∷ l) (suc k) within none = none_within l k (omega (arith, within)) none

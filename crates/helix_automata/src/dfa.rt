@@ -5,7 +5,7 @@ ghost use Rattle.helix_automata.specs.Automaton.{Automaton, Accepts, Leads, arcs
 ghost use Rattle.helix_automata.specs.Shape.{AreArcs, IsWellFormed, IsCharacter};
 
 use crate::arc::{Arc, Flags, Moves};
-use crate::explore::explore;
+use crate::exploration::explore;
 use crate::lookup::arc_of;
 use crate::product::Both;
 use crate::shape::are_rows;

@@ -7,7 +7,7 @@
 
 mod arc;
 mod dfa;
-mod explore;
+mod exploration;
 mod lookup;
 mod numbered;
 mod product;
@@ -16,7 +16,7 @@ mod shape;
 
 pub use arc::{Arc, Arcs, Flags, Moves};
 pub use dfa::{Dfa, DfaFault};
-pub use explore::{Machine, explore};
+pub use exploration::{Machine, explore};
 
 #[cfg(test)]
 mod tests;

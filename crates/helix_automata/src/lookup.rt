@@ -1,6 +1,6 @@
 //! The arc that a code takes.
 
-ghost use Rattle.std.specs.Prelude.{ℕ, ◌≡◌, ◌≤◌, Some, length};
+ghost use Rattle.std.specs.Prelude.{ℕ, ◌≡◌, ◌<◌, ◌≤◌, Some};
 ghost use Rattle.helix_automata.specs.Automaton.{target};
 ghost use Rattle.helix_automata.specs.Shape.{AreArcs, IsCharacter};
 ghost use Rattle.helix_automata.specs.Inner.Lookup.{IsFirstReaching};
@@ -30,6 +30,7 @@ fn first_reaching(arcs: &[Arc], code: u32) -> usize
 pub fn arc_of(arcs: &[Arc], code: u32) -> Arc
     requires arcs { (states : ℕ) × AreArcs states arcs.now }
     requires character { IsCharacter code }
+    ensures named { (states : ℕ) → AreArcs states arcs.now → result.to < states }
     ensures reaches { code ≤ result.last }
     ensures leads { (other : ℕ) → IsCharacter other → code ≤ other → other ≤ result.last → target arcs.now other ≡ Some result.to }
 {

@@ -2,9 +2,10 @@
 
 ghost use Rattle.std.specs.Prelude.{◌<◌, length};
 ghost use Rattle.helix_automata.specs.Automaton.{AcceptsFrom};
+ghost use Rattle.helix_automata.specs.Inner.PairLaws.{same_pairs};
 
 use crate::dfa::Dfa;
-use crate::explore::Machine;
+use crate::exploration::Machine;
 use crate::lookup::arc_of;
 use helix_base::Memory;
 use std::alloc::Global;
@@ -41,5 +42,5 @@ impl<'a> Machine for Both<'a> {
         Ok(((left.to, right.to), left.last.min(right.last)))
     }
 
-    ghost same_words = { ? };
+    ghost same_words = { λ both one other equal. same_pairs both.left.now both.right.now one other equal };
 }
