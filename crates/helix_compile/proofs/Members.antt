@@ -1,12 +1,12 @@
--- Numbers that a list contains, and what is read from the places with these numbers.
+-- Numbers that a list contains, and what is read from the nfa with these numbers.
 use Rattle.std.proofs.Common.{◌≡◌, ◌⊎◌, ◌↔◌, inl, inr, ℕ, ◌+◌, ◌<◌, ◌≤◌, Some, None, List, [], ◌∷◌, ◌++◌, take, length, get_or, slice_get, Contains, ap, arith, sym, ◌∙◌, subst}
 use Rattle.std.proofs.lemmas.Bool.{cases_lt}
 use Rattle.std.proofs.lemmas.Option.{slice_get_within, slice_get-get_or}
 use Rattle.std.proofs.lemmas.List.{take_more, get_or_append_left, length-append}
 use Rattle.std.proofs.lemmas.List.Elements.{Contains-append_left, Contains-push, Contains-push_cases}
-use Rattle.helix_compile.specs.declared.place.Place.{Place}
-use Rattle.helix_compile.specs.Places.{Reads}
-use Rattle.helix_compile.specs.Subsets.{ReadsSome}
+use Rattle.helix_compile.specs.declared.nfa.State.{State}
+use Rattle.helix_compile.specs.Inner.Nfa.{NfaAccepts}
+use Rattle.helix_compile.specs.Inner.Subsets.{SomeAccepts}
 
 pub same_some : {X : Type 0} (x y : X) → Some x ≡ Some y → x ≡ y
 same_some x y e = cc
@@ -46,28 +46,28 @@ pub added_more : (a b : List ℕ) (added n : ℕ) → (b ≡ a) ⊎ (b ≡ a ++ 
 added_more a b added n (inl is) has = subst (λ l. Contains l n) (sym is) has
 added_more a b added n (inr is) has = subst (λ l. Contains l n) (sym is) (Contains-append_left a (added ∷ []) n has)
 
-module _ (places : List Place) where
-  -- one more place
+module _ (nfa : List State) where
+  -- one more state
   pub reads_added : (a b : List ℕ) (added : ℕ) (word : List ℕ) → (b ≡ a) ⊎ (b ≡ a ++ added ∷ []) → Contains b added
-      → ReadsSome places b word ↔ (ReadsSome places a word ⊎ Reads places added word)
+      → SomeAccepts nfa b word ↔ (SomeAccepts nfa a word ⊎ NfaAccepts nfa added word)
   reads_added a b added word grows has = (to, from)
     where
-      to : ReadsSome places b word → ReadsSome places a word ⊎ Reads places added word
+      to : SomeAccepts nfa b word → SomeAccepts nfa a word ⊎ NfaAccepts nfa added word
       to (n, is, reads) = elim (added_cases a b added n grows is) [
         | inl old ↦ inl (n, old, reads)
-        | inr new ↦ inr (subst (λ m. Reads places m word) new reads)
+        | inr new ↦ inr (subst (λ m. NfaAccepts nfa m word) new reads)
       ]
 
-      from : ReadsSome places a word ⊎ Reads places added word → ReadsSome places b word
+      from : SomeAccepts nfa a word ⊎ NfaAccepts nfa added word → SomeAccepts nfa b word
       from (inl (n, is, reads)) = (n, added_more a b added n grows is, reads)
       from (inr reads) = (added, has, reads)
 
-  -- one more place of a set
+  -- one more state of a set
   pub reads_next : (set : List ℕ) (at d : ℕ) (word : List ℕ) → at < length set
-      → ReadsSome places (take (at + 1) set) word ↔ (ReadsSome places (take at set) word ⊎ Reads places (get_or set at d) word)
+      → SomeAccepts nfa (take (at + 1) set) word ↔ (SomeAccepts nfa (take at set) word ⊎ NfaAccepts nfa (get_or set at d) word)
   reads_next set at d word within =
       let is = take_more set at d within in
       reads_added (take at set) (take (at + 1) set) (get_or set at d) word (inr is) (subst (λ l. Contains l (get_or set at d)) (sym is) (Contains-push (take at set) (get_or set at d)))
 
-  pub reads_none : (set : List ℕ) (word : List ℕ) → length set ≡ 0 → ReadsSome places set word → ⊥
+  pub reads_none : (set : List ℕ) (word : List ℕ) → length set ≡ 0 → SomeAccepts nfa set word → ⊥
   reads_none set word empty (n, (k, within, is), reads) = omega (arith, within, empty)

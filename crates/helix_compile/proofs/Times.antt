@@ -1,8 +1,8 @@
 -- How often a part is passed.
 use Rattle.std.proofs.Common.{◌≡◌, ℕ, ◌≤◌, ◌<◌, ◌+◌, ◌-◌, zero, suc, ◌⊎◌, inl, inr, ◌↔◌, Option, Some, None, List, [], ◌++◌, refl, sym, ap, ◌∙◌, subst, arith, append_assoc}
-use Rattle.helix_expr.specs.Matching.{Joined, UpTo, Repeats}
-use Rattle.helix_compile.specs.Repeating.{AnyNumber, UpToNumber, RepeatsMore}
-use Rattle.helix_compile.proofs.Laying.{Both}
+use Rattle.helix_regex.specs.Matching.{Joined, UpTo, Repeats}
+use Rattle.helix_compile.specs.Inner.Repeats.{AnyNumber, UpToNumber, RepeatsMore}
+use Rattle.helix_compile.proofs.Leading.{Both}
 
 module _ (L : List ℕ → Type 0) where
   joined_more : (count others : ℕ) (front rest : List ℕ) → Joined L count front → Joined L others rest → Joined L (count + others) (front ++ rest)
@@ -21,8 +21,8 @@ module _ (L : List ℕ → Type 0) where
   joined_split (suc count) others word joined =
       let next : suc count + others ≡ suc (count + others) = omega arith in
       let (one, more, is, has, rest) = subst (λ n. Joined L n word) next joined in
-      let (front, behind, splits, first, second) = joined_split count others more rest in
-      (one ++ front, behind, is ∙ (ap (λ l. one ++ l) splits ∙ sym (append_assoc one front behind)), (one, front, refl, has, first), second)
+      let (front, after_it, splits, first, second) = joined_split count others more rest in
+      (one ++ front, after_it, is ∙ (ap (λ l. one ++ l) splits ∙ sym (append_assoc one front after_it)), (one, front, refl, has, first), second)
 
   -- the least number and then more
   pub repeats_is : (least : ℕ) (most : Option ℕ) (word : List ℕ) → Both (Joined L least) (RepeatsMore L least most) word ↔ Repeats L least most word

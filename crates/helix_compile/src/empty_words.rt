@@ -6,27 +6,27 @@ ghost use Rattle.helix_expr.specs.Matching.{Matches, MatchInOrder, MatchSome};
 use helix_expr::Expr;
 
 /// Whether it is plain that an expression matches no other word than the empty one.
-#[cycle(silence)]
-pub fn reads_nothing(expr: &Expr) -> bool
+#[cycle(empty_words)]
+pub fn matches_only_empty(expr: &Expr) -> bool
     ensures { IsTrue result → (word : List ℕ) → Matches expr.now word → word ≡ [] }
 {
     match expr {
         Expr::Empty => true,
         Expr::Chars(_) => false,
-        Expr::Seq(parts) => read_nothing(parts.as_slice()),
-        Expr::Alt(parts) => read_nothing(parts.as_slice()),
-        Expr::Repeat(part, _, most) => is_never(*most) || reads_nothing(part.get()),
+        Expr::Seq(parts) => match_only_empty(parts.as_slice()),
+        Expr::Alt(parts) => match_only_empty(parts.as_slice()),
+        Expr::Repeat(part, _, most) => is_never(*most) || matches_only_empty(part.get()),
     }
 }
 
 /// Whether it is plain of each expression.
-#[cycle(silence)]
-fn read_nothing(parts: &[Expr]) -> bool
+#[cycle(empty_words)]
+fn match_only_empty(parts: &[Expr]) -> bool
     ensures in_order { IsTrue result → (word : List ℕ) → MatchInOrder parts.now word → word ≡ [] }
     ensures some { IsTrue result → (word : List ℕ) → MatchSome parts.now word → word ≡ [] }
 {
     for part in parts {
-        if !reads_nothing(part) {
+        if !matches_only_empty(part) {
             return false;
         }
     }

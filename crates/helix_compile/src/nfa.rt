@@ -1,4 +1,4 @@
-//! The places of a pattern.
+//! Nondeterministic automata.
 
 ghost use Rattle.std.specs.Prelude.{◌≡◌, ◌<◌, [], ◌∷◌, ◌++◌, IfOk, OnOk, OnErr, length, set};
 
@@ -7,65 +7,68 @@ use helix_expr::Ranges;
 use std::alloc::Global;
 use std::marker::Model;
 
-/// What is done at a place.
+/// A state of a nondeterministic automaton.
 #[derive(Debug, Drop)]
-pub enum Place {
-    /// The word ends.
-    End,
-    /// No word goes on.
-    Stop,
-    /// A character of the ranges is read, and the word goes on at another place.
+pub enum State {
+    /// The word ends here.
+    Accept,
+    /// Every word is accepted.
+    AcceptAll,
+    /// No word is accepted.
+    Fail,
+    /// A character of the ranges leads to another state.
     Read(Ranges, u32),
-    /// The word goes on at one of two places, without a character.
-    Either(u32, u32),
+    /// Either of two states comes next, without a character.
+    Split(u32, u32),
 }
 
-/// Numbered places. Contracts see their list.
+/// A nondeterministic automaton: its numbered states. Contracts see their list.
 #[derive(Debug, Drop)]
-pub struct Places {
-    items: Vec<Place>,
+pub struct Nfa {
+    states: Vec<State>,
 }
 
-impl Model for Places {
+impl Model for Nfa {
     ghost use Rattle.std.specs.Prelude.{List};
-    ghost use Rattle.helix_compile.specs.declared.place.Place.{Place};
+    ghost use Rattle.helix_compile.specs.declared.nfa.State.{State};
 
-    ghost Value = { List Place };
+    ghost Value = { List State };
 
-    ghost view = { λ places. places.items.items };
+    ghost view = { λ nfa. nfa.states.items };
 }
 
-impl Places {
-    /// No place yet.
-    pub fn new(alloc: Global) -> Places
+impl Nfa {
+    /// No state yet.
+    pub fn new(alloc: Global) -> Nfa
         ensures { result ≡ [] }
     {
-        Places {
-            items: Vec::new(alloc),
+        Nfa {
+            states: Vec::new(alloc),
         }
     }
 
-    /// Adds a place, and answers its number.
-    pub fn add(&mut self, place: Place) -> Result<u32, Memory>
-        ensures added { OnOk result (self.new ≡ self.old ++ place ∷ []) }
+    /// Adds a state, and answers its number.
+    pub fn add(&mut self, state: State) -> Result<u32, Memory>
+        ensures added { OnOk result (self.new ≡ self.old ++ state ∷ []) }
         ensures number { IfOk result (λ number. number ≡ length self.old) }
     {
-        let number = u32::try_from(self.items.as_slice().len()).map_err(|_| Memory)?;
-        self.items.push(place)?;
+        let number = u32::try_from(self.states.as_slice().len()).map_err(|_| Memory)?;
+        self.states.push(state)?;
         Ok(number)
     }
 
-    /// Puts another place where one is.
-    pub fn replace(&mut self, number: u32, place: Place)
+    /// Puts another state in the place of one.
+    pub fn replace(&mut self, number: u32, state: State)
         requires { number < length self.old }
-        ensures { self.new ≡ set self.old number place }
+        ensures { self.new ≡ set self.old number state }
     {
-        self.items[number as usize] = place;
+        self.states[number as usize] = state;
     }
 
-    pub fn as_slice(&self) -> &[Place]
+    /// The states in order.
+    pub fn as_slice(&self) -> &[State]
         ensures { result.now ≡ self.now }
     {
-        self.items.as_slice()
+        self.states.as_slice()
     }
 }

@@ -1,4 +1,4 @@
-//! Numbers of places that have been met.
+//! Numbers of nfa that have been seen.
 
 ghost use Rattle.std.specs.Prelude.{◌≡◌, ◌⊎◌, OnOk, [], ◌∷◌, ◌++◌, Contains, slice_get};
 
@@ -7,26 +7,26 @@ use indexmap::IndexSet;
 use std::alloc::Global;
 use std::marker::Model;
 
-/// Numbers of places, each once, in the order in which they are met. Contracts see their list.
+/// Numbers of nfa, each once, in the order in which they are seen. Contracts see their list.
 #[derive(Drop)]
-pub struct Met {
+pub struct Seen {
     set: IndexSet<u32>,
 }
 
-impl Model for Met {
+impl Model for Seen {
     ghost use Rattle.std.specs.Prelude.{List, ℕ};
 
     ghost Value = { List ℕ };
 
-    ghost view = { λ met. met.set.keys };
+    ghost view = { λ seen. seen.set.keys };
 }
 
-impl Met {
-    /// No place yet.
-    pub fn new(alloc: Global) -> Met
+impl Seen {
+    /// No state yet.
+    pub fn new(alloc: Global) -> Seen
         ensures { result ≡ [] }
     {
-        Met {
+        Seen {
             set: IndexSet::new(alloc),
         }
     }
@@ -38,9 +38,9 @@ impl Met {
         self.set.get_index(index as usize).copied()
     }
 
-    /// Notes a number, unless it has been met.
+    /// Notes a number, unless it has been seen.
     pub fn note(&mut self, number: u32) -> Result<(), Memory>
-        ensures met { OnOk result (Contains self.new number) }
+        ensures seen { OnOk result (Contains self.new number) }
         ensures added { OnOk result ((self.new ≡ self.old) ⊎ (self.new ≡ self.old ++ number ∷ [])) }
     {
         self.set.insert(number)?;

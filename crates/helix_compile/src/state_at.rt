@@ -1,50 +1,63 @@
-//! What is done at a place of a list.
+//! The state with a number.
 
 ghost use Rattle.std.specs.Prelude.{◌≡◌, ◌↔◌, ℕ, List, IsTrue, IfSome, IfNone, Some, slice_get};
-ghost use Rattle.helix_compile.specs.declared.place.Place.TheVariants.{End, Read, Either};
-ghost use Rattle.helix_compile.specs.Closing.{IsRest};
+ghost use Rattle.helix_compile.specs.declared.nfa.State.TheVariants.{AcceptAll, Read, Split};
+ghost use Rattle.helix_compile.specs.Inner.Closure.{IsKept};
+ghost use Rattle.helix_compile.specs.Inner.Subsets.{AcceptsEmpty};
 
-use crate::place::Place;
+use crate::nfa::State;
 
-/// The ranges from which a character is read at a place, and the place behind it.
-pub fn read_at(places: &[Place], number: u32) -> Option<(&[(u32, u32)], u32)>
-    ensures some { IfSome result (λ read. slice_get places.now number ≡ Some (Read read.0.now read.1)) }
-    ensures none { IfNone result ((ranges : List (ℕ × ℕ)) (next : ℕ) → slice_get places.now number ≡ Some (Read ranges next) → ⊥) }
+/// The ranges of a state that reads a character, and the state to which they lead.
+pub fn read_at(nfa: &[State], number: u32) -> Option<(&[(u32, u32)], u32)>
+    ensures some { IfSome result (λ read. slice_get nfa.now number ≡ Some (Read read.0.now read.1)) }
+    ensures none { IfNone result ((ranges : List (ℕ × ℕ)) (next : ℕ) → slice_get nfa.now number ≡ Some (Read ranges next) → ⊥) }
 {
-    match places.get(number as usize)? {
-        Place::Read(ranges, next) => Some((ranges.as_slice(), *next)),
+    match nfa.get(number as usize)? {
+        State::Read(ranges, next) => Some((ranges.as_slice(), *next)),
         _ => None,
     }
 }
 
-/// Whether the word ends at a place.
-pub fn ends_at(places: &[Place], number: u32) -> bool
-    ensures { IsTrue result ↔ (slice_get places.now number ≡ Some End) }
+/// Whether a state accepts the empty word without a further step.
+pub fn accepts_empty_at(nfa: &[State], number: u32) -> bool
+    ensures { IsTrue result ↔ AcceptsEmpty (slice_get nfa.now number) }
 {
-    match places.get(number as usize) {
-        Some(Place::End) => true,
+    match nfa.get(number as usize) {
+        Some(State::Accept) => true,
+        Some(State::AcceptAll) => true,
         _ => false,
     }
 }
 
-/// Whether the word ends at a place, or a character is read there.
-pub fn goes_on_at(places: &[Place], number: u32) -> bool
-    ensures { IsTrue result ↔ IsRest (slice_get places.now number) }
+/// Whether a state accepts every word.
+pub fn accepts_all_at(nfa: &[State], number: u32) -> bool
+    ensures { IsTrue result ↔ (slice_get nfa.now number ≡ Some AcceptAll) }
 {
-    match places.get(number as usize) {
-        Some(Place::Read(_, _)) => true,
-        Some(Place::End) => true,
+    match nfa.get(number as usize) {
+        Some(State::AcceptAll) => true,
         _ => false,
     }
 }
 
-/// The sides of a place that is a fork.
-pub fn fork_at(places: &[Place], number: u32) -> Option<(u32, u32)>
-    ensures some { IfSome result (λ sides. slice_get places.now number ≡ Some (Either sides.0 sides.1)) }
-    ensures none { IfNone result ((one other : ℕ) → slice_get places.now number ≡ Some (Either one other) → ⊥) }
+/// Whether a state accepts or reads a character.
+pub fn is_kept_at(nfa: &[State], number: u32) -> bool
+    ensures { IsTrue result ↔ IsKept (slice_get nfa.now number) }
 {
-    match places.get(number as usize)? {
-        Place::Either(one, other) => Some((*one, *other)),
+    match nfa.get(number as usize) {
+        Some(State::Read(_, _)) => true,
+        Some(State::Accept) => true,
+        Some(State::AcceptAll) => true,
+        _ => false,
+    }
+}
+
+/// The two states to which a split leads.
+pub fn split_at(nfa: &[State], number: u32) -> Option<(u32, u32)>
+    ensures some { IfSome result (λ sides. slice_get nfa.now number ≡ Some (Split sides.0 sides.1)) }
+    ensures none { IfNone result ((one other : ℕ) → slice_get nfa.now number ≡ Some (Split one other) → ⊥) }
+{
+    match nfa.get(number as usize)? {
+        State::Split(one, other) => Some((*one, *other)),
         _ => None,
     }
 }

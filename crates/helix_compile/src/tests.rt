@@ -1,2 +1,2 @@
+mod nfa;
 mod patterns;
-mod places;

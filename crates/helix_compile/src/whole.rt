@@ -1,54 +1,65 @@
-//! The places of a whole pattern.
+//! The nondeterministic automaton of a whole pattern.
 
 ghost use Rattle.std.specs.Prelude.{ℕ, List, ◌≡◌, ◌↔◌, IfOk, OnOk, All};
 ghost use Rattle.helix_automata.specs.Shape.{IsCharacter};
-ghost use Rattle.helix_compile.specs.Places.{Grows, LaysOut, Reads};
-ghost use Rattle.helix_compile.specs.Patterns.{Answers, Beside, PatternWords};
+ghost use Rattle.helix_compile.specs.Answers.{Answers};
+ghost use Rattle.helix_compile.specs.Inner.Nfa.{Grows, Builds, NfaAccepts};
+ghost use Rattle.helix_compile.specs.Inner.Patterns.{Before, MatchEnds, is_open, end_state};
 
-use crate::layout::{lay, lay_star};
-use crate::place::{Place, Places};
+use crate::nfa::{Nfa, State};
+use crate::thompson::{build, build_star};
 use helix_base::Memory;
 use helix_expr::{Expr, Ranges, Regex};
 use std::alloc::Global;
 
-/// Lays out any characters before a place, unless an anchor binds there.
-fn lay_beside(alloc: Global, places: &mut Places, bound: bool, next: u32) -> Result<u32, Memory>
-    ensures grows { OnOk result (Grows places.old places.new) }
-    ensures leads { IfOk result (λ first. LaysOut places.old places.new first (Beside bound) next) }
+/// Builds any characters before a state, unless an anchor binds there.
+fn build_before(alloc: Global, nfa: &mut Nfa, bound: bool, next: u32) -> Result<u32, Memory>
+    ensures grows { OnOk result (Grows nfa.old nfa.new) }
+    ensures leads { IfOk result (λ first. Builds nfa.old nfa.new first (Before bound) next) }
 {
     if bound {
         return Ok(next);
     }
     let mut ranges = Ranges::new(alloc);
     ranges.push((0x20, 0x10_FFFF))?;
-    lay_star(alloc, places, &Expr::Chars(ranges), next)
+    build_star(alloc, nfa, &Expr::Chars(ranges), next)
 }
 
-/// Lays out a pattern before a place: its expression and, where a match is to be contained, what may stand beside that.
-fn lay_pattern(
+/// Builds a match before a state and, where it is to be contained, what may be before the match.
+fn build_match(
     alloc: Global,
-    places: &mut Places,
+    nfa: &mut Nfa,
     regex: &Regex,
     containing: bool,
     next: u32,
 ) -> Result<u32, Memory>
-    ensures grows { OnOk result (Grows places.old places.new) }
-    ensures leads { IfOk result (λ first. LaysOut places.old places.new first (PatternWords regex.now containing) next) }
+    ensures grows { OnOk result (Grows nfa.old nfa.new) }
+    ensures leads { IfOk result (λ first. Builds nfa.old nfa.new first (MatchEnds regex.now containing) next) }
 {
     if !containing {
-        return lay(alloc, places, &regex.expr, next);
+        return build(alloc, nfa, &regex.expr, next);
     }
-    let behind = lay_beside(alloc, places, regex.at_end, next)?;
-    let middle = lay(alloc, places, &regex.expr, behind)?;
-    lay_beside(alloc, places, regex.at_start, middle)
+    let middle = build(alloc, nfa, &regex.expr, next)?;
+    build_before(alloc, nfa, regex.at_start, middle)
 }
 
-/// The places of a pattern, and the number of the first.
-pub fn places_of(alloc: Global, regex: &Regex, containing: bool) -> Result<(Places, u32), Memory>
-    ensures { IfOk result (λ laid. (word : List ℕ) → All IsCharacter word → Reads laid.0 laid.1 word ↔ Answers regex.now containing word) }
+/// The state after a match: where anything may follow, it accepts every word, so that no more is read.
+fn end_of(regex: &Regex, containing: bool) -> State
+    ensures { result ≡ end_state (is_open regex.now containing) }
 {
-    let mut places = Places::new(alloc);
-    let end = places.add(Place::End)?;
-    let first = lay_pattern(alloc, &mut places, regex, containing, end)?;
-    Ok((places, first))
+    if containing && !regex.at_end {
+        State::AcceptAll
+    } else {
+        State::Accept
+    }
+}
+
+/// The nondeterministic automaton of a pattern, and the number of its first state.
+pub fn nfa_of(alloc: Global, regex: &Regex, containing: bool) -> Result<(Nfa, u32), Memory>
+    ensures { IfOk result (λ built. (word : List ℕ) → All IsCharacter word → NfaAccepts built.0 built.1 word ↔ Answers regex.now containing word) }
+{
+    let mut nfa = Nfa::new(alloc);
+    let end = nfa.add(end_of(regex, containing))?;
+    let first = build_match(alloc, &mut nfa, regex, containing, end)?;
+    Ok((nfa, first))
 }

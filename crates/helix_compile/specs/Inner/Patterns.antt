@@ -1,24 +1,35 @@
--- The words that the automaton of a pattern accepts.
-use Rattle.std.specs.Prelude.{◌≡◌, ℕ, Bool, true, false, MatchBool, List, [], ◌∷◌, ◌++◌}
-use Rattle.helix_expr.specs.declared.regex.Regex.{Regex}
-use Rattle.helix_expr.specs.Matching.{Matches, ContainsMatch, IsOneOf}
-use Rattle.helix_compile.specs.Repeating.{AnyNumber}
-
--- the word matches as a whole or, where that is asked, contains a match with the pattern's anchors
-abbrev pub Answers : Regex → Bool → List ℕ → Type 0
-Answers regex containing word = MatchBool containing (ContainsMatch regex word) (Matches regex.expr word)
+-- The parts of a pattern as its automaton has them.
+use Rattle.std.specs.Prelude.{◌≡◌, ℕ, Bool, true, false, ◌&&◌, not, List, [], ◌∷◌, ◌++◌}
+use Rattle.helix_regex.specs.declared.regex.Regex.{Regex}
+use Rattle.helix_regex.specs.Matching.{Matches, IsOneOf}
+use Rattle.helix_compile.specs.declared.nfa.State.{State}
+use Rattle.helix_compile.specs.declared.nfa.State.TheVariants.{Accept, AcceptAll}
+use Rattle.helix_compile.specs.Inner.Repeats.{AnyNumber}
 
 -- every character is in these ranges
 abbrev pub any_character : List (ℕ × ℕ)
 any_character = (0x20, 0x10FFFF) ∷ []
 
--- nothing where an anchor binds, and else any characters
-abbrev pub Beside : Bool → List ℕ → Type 0
-Beside true word = word ≡ []
-Beside false word = AnyNumber (IsOneOf any_character) word
+-- before a match: nothing where an anchor binds, and else any characters
+abbrev pub Before : Bool → List ℕ → Type 0
+Before true word = word ≡ []
+Before false word = AnyNumber (IsOneOf any_character) word
 
--- a match and, where it may be contained in a word, what may stand before and behind it
-abbrev pub PatternWords : Regex → Bool → List ℕ → Type 0
-PatternWords regex false word = Matches regex.expr word
-PatternWords regex true word = (before : List ℕ) × (more : List ℕ) × (word ≡ before ++ more) × Beside regex.at_start before
-    × ((middle : List ℕ) × (after : List ℕ) × (more ≡ middle ++ after) × Matches regex.expr middle × Beside regex.at_end after)
+-- a match and, where it may be contained in a word, what may be before it
+abbrev pub MatchEnds : Regex → Bool → List ℕ → Type 0
+MatchEnds regex false word = Matches regex.expr word
+MatchEnds regex true word = (before : List ℕ) × (middle : List ℕ) × (word ≡ before ++ middle) × Before regex.at_start before × Matches regex.expr middle
+
+-- anything may follow a match
+abbrev pub is_open : Regex → Bool → Bool
+is_open regex containing = containing && not regex.at_end
+
+-- after a match: anything where that may follow, and else nothing
+abbrev pub After : Bool → List ℕ → Type 0
+After true word = Unit {0}
+After false word = word ≡ []
+
+-- the state that accepts what may follow a match
+abbrev pub end_state : Bool → State
+end_state true = AcceptAll
+end_state false = Accept

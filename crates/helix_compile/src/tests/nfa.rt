@@ -1,34 +1,34 @@
-use crate::construction::subsets;
-use crate::place::{Place, Places};
+use crate::determinize::subsets;
+use crate::nfa::{Nfa, State};
 use helix_automata::Dfa;
 use helix_base::{Alphabet, Memory, Text};
 use helix_expr::Ranges;
 use std::alloc::Global;
 use std::test::Fail;
 
-/// A place in a table: `e` the end, `s` none, `r` a character from the first to the last of two codes and then the place
-/// with this number, and `f` a fork.
+/// A state in a table: `e` the end, `s` none, `r` a character from the first to the last of two codes and then the state
+/// with this number, and `f` a split.
 type Row = (char, u32, u32, u32);
 
-fn place_of(alloc: Global, row: Row) -> Result<Place, Memory> {
+fn state_of(alloc: Global, row: Row) -> Result<State, Memory> {
     match row {
-        ('e', _, _, _) => Ok(Place::End),
+        ('e', _, _, _) => Ok(State::Accept),
         ('r', first, last, next) => {
             let mut ranges = Ranges::new(alloc);
             ranges.push((first, last))?;
-            Ok(Place::Read(ranges, next))
+            Ok(State::Read(ranges, next))
         }
-        ('f', one, other, _) => Ok(Place::Either(one, other)),
-        _ => Ok(Place::Stop),
+        ('f', one, other, _) => Ok(State::Split(one, other)),
+        _ => Ok(State::Fail),
     }
 }
 
 fn automaton(alloc: Global, rows: &[Row], start: u32) -> Result<Dfa, Memory> {
-    let mut places = Places::new(alloc);
+    let mut nfa = Nfa::new(alloc);
     for row in rows {
-        places.add(place_of(alloc, *row)?)?;
+        nfa.add(state_of(alloc, *row)?)?;
     }
-    subsets(alloc, places.as_slice(), start)
+    subsets(alloc, nfa.as_slice(), start)
 }
 
 const A: u32 = 97;
@@ -38,7 +38,7 @@ const B: u32 = 98;
 #[test]
 fn what_is_read_is_accepted(rt: HostRuntime) -> Result<(), Fail> {
     let cases: [(&[Row], u32, &[&str], &[&str]); 9] = [
-        // The end alone, no word, and a place that isn't there.
+        // The end alone, no word, and a state that isn't there.
         (&[('e', 0, 0, 0)], 0, &[""], &["a"]),
         (&[('s', 0, 0, 0)], 0, &[], &["", "a"]),
         (&[('r', A, A, 7)], 0, &[], &["", "a"]),
@@ -105,19 +105,19 @@ fn answer(dfa: &Dfa, word: &Text) -> bool {
     word.codes().iter().all(|code| Alphabet::Unicode.has(*code)) && dfa.accepts(word.codes())
 }
 
-/// The places of a word of a and b whose character so many before the last one is an a.
+/// The nfa of a word of a and b whose character so many before the last one is an a.
 fn a_before(alloc: Global, count: u8) -> Result<Dfa, Memory> {
     let count = u32::from(count);
-    let mut places = Places::new(alloc);
-    places.add(Place::End)?;
+    let mut nfa = Nfa::new(alloc);
+    nfa.add(State::Accept)?;
     for next in 0..count {
-        places.add(place_of(alloc, ('r', A, B, next))?)?;
+        nfa.add(state_of(alloc, ('r', A, B, next))?)?;
     }
-    let (chosen, any, fork) = (count + 1, count + 2, count + 3);
-    places.add(place_of(alloc, ('r', A, A, count))?)?;
-    places.add(place_of(alloc, ('r', A, B, fork))?)?;
-    places.add(Place::Either(any, chosen))?;
-    subsets(alloc, places.as_slice(), fork)
+    let (chosen, any, split) = (count + 1, count + 2, count + 3);
+    nfa.add(state_of(alloc, ('r', A, A, count))?)?;
+    nfa.add(state_of(alloc, ('r', A, B, split))?)?;
+    nfa.add(State::Split(any, chosen))?;
+    subsets(alloc, nfa.as_slice(), split)
 }
 
 #[test]
