@@ -3,10 +3,10 @@ use Rattle.std.proofs.Common.{◌≡◌, ℕ, ◌≤◌, ◌<◌, ◌+◌, ◌-�
 use Rattle.std.proofs.lemmas.List.{take-append-drop, length-append, append-nil}
 use Rattle.std.proofs.Common.{drop-cons}
 use Rattle.std.proofs.Math.ListN.{drop_of_length-le}
-use Rattle.helix_regex.specs.declared.expr.Expr.{Expr, Empty, Chars}
-use Rattle.helix_regex.specs.declared.expr.Expr.TheViews.{Seq, Alt, Repeat}
-use Rattle.helix_regex.specs.Matching.{Matches, MatchInOrder, MatchSome, Joined, UpTo, Repeats}
-use Rattle.helix_regex.specs.MatchingLaws.{Matches-Seq, Matches-Alt, Matches-Repeat}
+use Rattle.helix_expr.specs.declared.expr.Expr.{Expr, Empty, Chars}
+use Rattle.helix_expr.specs.declared.expr.Expr.TheViews.{Seq, Alt, Repeat}
+use Rattle.helix_expr.specs.Matching.{Matches, MatchInOrder, MatchSome, Joined, UpTo, Repeats}
+use Rattle.helix_expr.specs.MatchingLaws.{Matches-Seq, Matches-Alt, Matches-Repeat}
 use Rattle.helix_compile.specs.declared.nfa.State.{State}
 use Rattle.helix_compile.specs.declared.nfa.State.TheVariants.{Fail, Read, Split}
 use Rattle.helix_compile.specs.Inner.Nfa.{Grows, Builds}

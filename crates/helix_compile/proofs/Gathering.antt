@@ -4,8 +4,8 @@ use Rattle.std.specs.Prelude.{IsTrue}
 use Rattle.std.proofs.lemmas.Bool.{or_cases, or_left, or_right}
 use Rattle.helix_base.specs.Alphabet.{is_in_range}
 use Rattle.helix_base.specs.Ranges.{in_ranges}
-use Rattle.helix_regex.specs.declared.expr.Expr.{Expr, Chars}
-use Rattle.helix_regex.specs.Matching.{Matches, MatchSome, IsOneOf, InRanges}
+use Rattle.helix_expr.specs.declared.expr.Expr.{Expr, Chars}
+use Rattle.helix_expr.specs.Matching.{Matches, MatchSome, IsOneOf, InRanges}
 use Rattle.helix_compile.specs.declared.nfa.State.{State}
 use Rattle.helix_compile.specs.declared.nfa.State.TheVariants.{Fail, Read, Split}
 use Rattle.helix_compile.specs.Inner.Nfa.{Grows, Builds}

@@ -1,6 +1,6 @@
 -- How nfa that lead through languages are put together.
 use Rattle.std.proofs.Common.{◌≡◌, ℕ, ◌≤◌, zero, suc, ◌⊎◌, inl, inr, Some, List, [], ◌∷◌, ◌++◌, slice_get, refl, sym, ap, ◌∙◌, subst, arith, append_assoc}
-use Rattle.helix_regex.specs.Matching.{IsOneOf}
+use Rattle.helix_expr.specs.Matching.{IsOneOf}
 use Rattle.helix_compile.specs.declared.nfa.State.{State}
 use Rattle.helix_compile.specs.declared.nfa.State.TheVariants.{Fail, Read, Split}
 use Rattle.helix_compile.specs.Inner.Nfa.{GoesOn, NfaAcceptsIn, NfaAccepts, LeadsThrough}

@@ -2,7 +2,7 @@
 use Rattle.std.proofs.Common.{◌≡◌, ◌≢◌, ℕ, ◌≤◌, ◌<◌, zero, suc, inl, inr, Some, List, [], ◌∷◌, ◌++◌, length, slice_get, set, refl, sym, ap, ◌∙◌, subst, arith, append_assoc}
 use Rattle.std.proofs.lemmas.List.{length-append, length-set, get_or-set_other, get_or-set_same}
 use Rattle.std.proofs.lemmas.Option.{slice_get-get_or}
-use Rattle.helix_regex.specs.Matching.{Joined}
+use Rattle.helix_expr.specs.Matching.{Joined}
 use Rattle.helix_compile.specs.declared.nfa.State.{State}
 use Rattle.helix_compile.specs.declared.nfa.State.TheVariants.{Accept, Fail, Split}
 use Rattle.helix_compile.specs.Inner.Nfa.{NfaAcceptsIn, NfaAccepts, LeadsThrough, Grows, Builds}

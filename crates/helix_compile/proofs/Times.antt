@@ -1,6 +1,6 @@
 -- How often a part is passed.
 use Rattle.std.proofs.Common.{◌≡◌, ℕ, ◌≤◌, ◌<◌, ◌+◌, ◌-◌, zero, suc, ◌⊎◌, inl, inr, ◌↔◌, Option, Some, None, List, [], ◌++◌, refl, sym, ap, ◌∙◌, subst, arith, append_assoc}
-use Rattle.helix_regex.specs.Matching.{Joined, UpTo, Repeats}
+use Rattle.helix_expr.specs.Matching.{Joined, UpTo, Repeats}
 use Rattle.helix_compile.specs.Inner.Repeats.{AnyNumber, UpToNumber, RepeatsMore}
 use Rattle.helix_compile.proofs.Leading.{Both}
 

@@ -4,9 +4,9 @@ use Rattle.std.proofs.lemmas.Bool.{leb-true, le-leb, and_parts, or_cases}
 use Rattle.std.proofs.lemmas.List.{get_or_append_left, length-append, get_or-append-add}
 use Rattle.std.proofs.lemmas.List.Elements.{All-head, All-tail}
 use Rattle.helix_automata.specs.Shape.{IsCharacter}
-use Rattle.helix_regex.specs.declared.expr.Expr.{Chars}
-use Rattle.helix_regex.specs.declared.regex.Regex.{Regex}
-use Rattle.helix_regex.specs.Matching.{Matches, IsOneOf, InRanges}
+use Rattle.helix_expr.specs.declared.expr.Expr.{Chars}
+use Rattle.helix_expr.specs.declared.regex.Regex.{Regex}
+use Rattle.helix_expr.specs.Matching.{Matches, IsOneOf, InRanges}
 use Rattle.helix_compile.specs.declared.nfa.State.{State}
 use Rattle.helix_compile.specs.Answers.{Answers}
 use Rattle.helix_compile.specs.Inner.Nfa.{GoesOn, NfaAcceptsIn, NfaAccepts, LeadsThrough, Grows, Builds}

@@ -1,7 +1,7 @@
 -- The words that the automaton of a pattern accepts.
 use Rattle.std.specs.Prelude.{ℕ, Bool, MatchBool, List}
-use Rattle.helix_regex.specs.declared.regex.Regex.{Regex}
-use Rattle.helix_regex.specs.Matching.{Matches, ContainsMatch}
+use Rattle.helix_expr.specs.declared.regex.Regex.{Regex}
+use Rattle.helix_expr.specs.Matching.{Matches, ContainsMatch}
 
 -- the word matches as a whole or, where that is asked, contains a match with the pattern's anchors
 abbrev pub Answers : Regex → Bool → List ℕ → Type 0

@@ -1,15 +1,15 @@
 //! Alternatives that are one character, which one state reads together.
 
 ghost use Rattle.std.specs.Prelude.{ℕ, List, ◌++◌, ◌≡◌, IfSome, IfOk, OnOk};
-ghost use Rattle.helix_regex.specs.declared.expr.Expr.{Expr, Chars};
-ghost use Rattle.helix_regex.specs.Matching.{MatchSome};
+ghost use Rattle.helix_expr.specs.declared.expr.Expr.{Expr, Chars};
+ghost use Rattle.helix_expr.specs.Matching.{MatchSome};
 ghost use Rattle.helix_compile.specs.declared.nfa.State.{State};
 ghost use Rattle.helix_compile.specs.Inner.Alternatives.{AreAlternatives};
 ghost use Rattle.helix_compile.specs.Inner.Nfa.{Grows, Builds};
 
 use crate::nfa::{Nfa, State};
 use helix_base::Memory;
-use helix_regex::{Expr, Ranges};
+use helix_expr::{Expr, Ranges};
 
 /// The ranges of an expression that is one character of them.
 pub fn chars_of(expr: &Expr) -> Option<&[(u32, u32)]>

@@ -1,8 +1,8 @@
 //! The Thompson construction: the nondeterministic automaton of an expression, built from its end to its beginning.
 
 ghost use Rattle.std.specs.Prelude.{ℕ, List, [], ◌∷◌, false, ◌≡◌, IsTrue, IfOk, OnOk};
-ghost use Rattle.helix_regex.specs.declared.expr.Expr.{Expr};
-ghost use Rattle.helix_regex.specs.Matching.{Matches, MatchInOrder, MatchSome, Joined, UpTo, Repeats};
+ghost use Rattle.helix_expr.specs.declared.expr.Expr.{Expr};
+ghost use Rattle.helix_expr.specs.Matching.{Matches, MatchInOrder, MatchSome, Joined, UpTo, Repeats};
 ghost use Rattle.helix_compile.specs.declared.nfa.State.{State};
 ghost use Rattle.helix_compile.specs.Inner.Nfa.{Grows, Builds};
 ghost use Rattle.helix_compile.specs.Inner.Alternatives.{AreAlternatives};
@@ -12,7 +12,7 @@ use crate::alternatives::{append_ranges, build_chars, chars_of};
 use crate::empty_words::matches_only_empty;
 use crate::nfa::{Nfa, State};
 use helix_base::Memory;
-use helix_regex::{Expr, Ranges};
+use helix_expr::{Expr, Ranges};
 use std::alloc::Global;
 
 /// Builds an expression before a state, and answers its first state.

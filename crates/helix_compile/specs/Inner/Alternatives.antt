@@ -1,7 +1,7 @@
 -- Alternatives of which those that are one character are gathered.
 use Rattle.std.specs.Prelude.{ℕ, ◌⊎◌, ◌↔◌, List}
-use Rattle.helix_regex.specs.declared.expr.Expr.{Expr}
-use Rattle.helix_regex.specs.Matching.{MatchSome, IsOneOf}
+use Rattle.helix_expr.specs.declared.expr.Expr.{Expr}
+use Rattle.helix_expr.specs.Matching.{MatchSome, IsOneOf}
 use Rattle.helix_compile.specs.declared.nfa.State.{State}
 use Rattle.helix_compile.specs.Inner.Nfa.{Grows, Builds}
 

@@ -1,6 +1,6 @@
 -- The words that a nondeterministic automaton accepts.
 use Rattle.std.specs.Prelude.{◌≡◌, ℕ, zero, suc, ◌<◌, ◌≤◌, ◌⊎◌, Option, Some, None, List, [], ◌∷◌, ◌++◌, length, slice_get}
-use Rattle.helix_regex.specs.Matching.{InRanges}
+use Rattle.helix_expr.specs.Matching.{InRanges}
 use Rattle.helix_compile.specs.declared.nfa.State.{State}
 use Rattle.helix_compile.specs.declared.nfa.State.TheVariants.{Accept, AcceptAll, Fail, Read, Split}
 

@@ -1,7 +1,7 @@
 -- The parts of a pattern as its automaton has them.
 use Rattle.std.specs.Prelude.{◌≡◌, ℕ, Bool, true, false, ◌&&◌, not, List, [], ◌∷◌, ◌++◌}
-use Rattle.helix_regex.specs.declared.regex.Regex.{Regex}
-use Rattle.helix_regex.specs.Matching.{Matches, IsOneOf}
+use Rattle.helix_expr.specs.declared.regex.Regex.{Regex}
+use Rattle.helix_expr.specs.Matching.{Matches, IsOneOf}
 use Rattle.helix_compile.specs.declared.nfa.State.{State}
 use Rattle.helix_compile.specs.declared.nfa.State.TheVariants.{Accept, AcceptAll}
 use Rattle.helix_compile.specs.Inner.Repeats.{AnyNumber}

@@ -1,5 +1,5 @@
 use Rattle.std.proofs.Common.{◌≡◌, [], sym, subst, arith, append-nil}
-use Rattle.helix_regex.specs.Matching.{Matches, Joined}
+use Rattle.helix_expr.specs.Matching.{Matches, Joined}
 use Rattle.helix_compile.specs.Inner.Nfa.{Builds}
 use Rattle.helix_compile.specs.Inner.Repeats.{UpToNumber}
 use Rattle.helix_compile.proofs.Arms.{empty_arm, chars_arm, seq_arm, alt_arm, repeat_arm, star_arm, stop_arm, optional_arm, repeated_arm, ok_grows, in_order_more, times_more, optional_start, optional_more, unasked_arm, never_arm, once_arm}
