@@ -116,7 +116,7 @@ last_part left part some is =
     sym (take-append-drop at left) ∙ ap (λ l. take at left ++ l) (cut ∙ (ap (λ x. x ∷ drop (suc at) left) (sym is) ∙ ap (λ l. part ∷ l) none))
 
 module _ (start now new : List State) (parts left done : List Expr) (part : Expr) (split : parts ≡ left ++ done) (some : 1 ≤ length left) (is : part ≡ get_or left (length left - 1) part) where
-  parts_split : parts ≡ take (length left - 1) left ++ part ∷ done
+  pub parts_split : parts ≡ take (length left - 1) left ++ part ∷ done
   parts_split = split ∙ (ap (λ l. l ++ done) (last_part left part some is) ∙ append_assoc (take (length left - 1) left) (part ∷ []) done)
 
   pub in_order_more : (first one next : ℕ) → Grows start now → Builds start now first (MatchInOrder done) next → Grows now new → Builds now new one (Matches part) first

@@ -31,7 +31,7 @@ sided From (Some (Read ranges next)) word reads = inl tt
 sided From (Some (Split one other)) word (inl reads) = inr (one, inl refl, reads)
 sided From (Some (Split one other)) word (inr reads) = inr (other, inr refl, reads)
 
--- what the loop over the nfa that have been seen keeps
+-- what the loop over the states that have been seen keeps
 pub record Closing (nfa : List State) (start seen found : List ℕ) (done : ℕ) : Type 0 where
   pub within : done ≤ length seen
   pub starts : (n : ℕ) → Contains start n → Contains seen n

@@ -44,7 +44,7 @@ repeat_quiet expr part lent least most is same quiet word matches =
     let (count, low, high, joined) = (Matches-Repeat part least most word).0 (subst (λ e. Matches e word) is matches) in
     quiet_joined (Matches part) (subst (λ e. Quiet (Matches e)) same quiet) count word joined
 
--- none after_it the last of the parts
+-- none after the last of the parts
 pub silent_all : (parts rest : List Expr) → rest ≡ [] → (Silent rest → Silent parts) → Silent parts
 silent_all parts rest end all = all (subst Silent (sym end) tt)
 

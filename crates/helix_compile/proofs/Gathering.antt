@@ -1,7 +1,7 @@
 -- Alternatives of which those that are one character are gathered.
-use Rattle.std.proofs.Common.{◌≡◌, ◌⊎◌, ◌↔◌, inl, inr, ℕ, ◌<◌, ◌≤◌, Bool, true, false, ◌||◌, Some, Result, Ok, Err, IfOk, OnOk, List, [], ◌∷◌, ◌++◌, length, refl, sym, ap, ◌∙◌, subst, arith}
+use Rattle.std.proofs.Common.{◌≡◌, ◌⊎◌, ◌↔◌, inl, inr, ℕ, ◌<◌, ◌≤◌, Bool, true, ◌==◌, Some, Result, Ok, Err, IfOk, OnOk, List, [], ◌∷◌, ◌++◌, length, refl, sym, ap, ◌∙◌, subst, arith}
 use Rattle.std.specs.Prelude.{IsTrue}
-use Rattle.std.proofs.lemmas.Bool.{or_cases, or_left, or_right}
+use Rattle.std.proofs.lemmas.Bool.{or_cases, or_left, or_right, eqb-true}
 use Rattle.helix_base.specs.Alphabet.{is_in_range}
 use Rattle.helix_base.specs.Ranges.{in_ranges}
 use Rattle.helix_expr.specs.declared.expr.Expr.{Expr, Chars}
@@ -40,9 +40,9 @@ in_both (range ∷ a) b code =
     from f (inr h) = or_right (is_in_range code range) (in_ranges (a ++ b) code) (f (inr h))
 
 one_of_both : (a b : List (ℕ × ℕ)) (word : List ℕ) → IsOneOf (a ++ b) word ↔ (IsOneOf a word ⊎ IsOneOf b word)
-one_of_both a b [] = ((λ h. absurd h), (λ h. elim h [ inl no ↦ no | inr no ↦ no ]))
+one_of_both a b [] = ((λ h. absurd h), (λ h. elim h [ inl gone ↦ gone | inr gone ↦ gone ]))
 one_of_both a b (code ∷ []) = in_both a b code
-one_of_both a b (first ∷ second ∷ word) = ((λ h. absurd h), (λ h. elim h [ inl no ↦ no | inr no ↦ no ]))
+one_of_both a b (first ∷ second ∷ word) = ((λ h. absurd h), (λ h. elim h [ inl gone ↦ gone | inr gone ↦ gone ]))
 
 none_of_none : (word : List ℕ) → IsOneOf [] word → ⊥
 none_of_none [] h = h
@@ -56,7 +56,7 @@ alternatives_none start nfa first ranges next added at empty = record {
   grows = grows_push start nfa Fail added;
   built = [];
   builds = builds_stop start nfa next first added at;
-  are = λ word. ((λ h. absurd h), (λ h. elim h [ inl no ↦ no | inr one ↦ none_of_none word (subst (λ l. IsOneOf l word) empty one) ]));
+  are = λ word. ((λ h. absurd h), (λ h. elim h [ inl gone ↦ gone | inr one ↦ none_of_none word (subst (λ l. IsOneOf l word) empty one) ]));
 }
 
 -- one more that is one character
@@ -138,3 +138,17 @@ alternatives_with_chars now new last others one next ranges (Ok split) read at a
 pub grows_two : {X Y : Type 0} (a b c : List State) (one other : State) (r : Result X Y) → b ≡ a ++ one ∷ [] → OnOk r (c ≡ b ++ other ∷ []) → OnOk r (Grows a c)
 grows_two a b c one other (Err y) first second = tt
 grows_two a b c one other (Ok x) first second = grows_more a b c (grows_push a b one first) (grows_push b c other second)
+
+pub ok_grows_more : {X Y : Type 0} (a b c : List State) (r : Result X Y) → Grows a b → OnOk r (Grows b c) → OnOk r (Grows a c)
+ok_grows_more a b c (Err y) first second = tt
+ok_grows_more a b c (Ok x) first second = grows_more a b c first second
+
+-- none are left
+pub all_built : {Y : Type 0} (a b : List State) (parts left done : List Expr) (next : ℕ) (r : Result ℕ Y) → parts ≡ left ++ done → length left < 1
+    → IfOk r (λ first. Builds a b first (MatchSome done) next) → IfOk r (λ first. Builds a b first (MatchSome parts) next)
+all_built a b parts (part ∷ left) done next r split few builds = absurd (omega (arith, few))
+all_built a b parts [] done next r split few builds = subst (λ l. IfOk r (λ first. Builds a b first (MatchSome l) next)) (sym split) builds
+
+pub none_of : {X : Type 0} (l : List X) → (length l == 0) ≡ true → l ≡ []
+none_of [] e = refl
+none_of (x ∷ l) e = absurd (omega (arith, eqb-true (length (x ∷ l)) 0 e))

@@ -1,4 +1,4 @@
--- How nfa that lead through languages are put together.
+-- How states that lead through languages are put together.
 use Rattle.std.proofs.Common.{◌≡◌, ℕ, ◌≤◌, zero, suc, ◌⊎◌, inl, inr, Some, List, [], ◌∷◌, ◌++◌, slice_get, refl, sym, ap, ◌∙◌, subst, arith, append_assoc}
 use Rattle.helix_expr.specs.Matching.{IsOneOf}
 use Rattle.helix_compile.specs.declared.nfa.State.{State}
@@ -17,12 +17,12 @@ module _ (nfa : List State) where
     joins = λ front rest empty reads. subst (λ f. NfaAccepts nfa state (f ++ rest)) (sym empty) reads;
   }
 
-  -- one language after_it the other
+  -- one language after the other
   pub leads_both : (a b c : ℕ) (L M : List ℕ → Type 0) → LeadsThrough nfa a L b → LeadsThrough nfa b M c → LeadsThrough nfa a (Both L M) c
   leads_both a b c L M first second = record {
     splits = λ steps word reads.
-        let (front, after_it, fewer, is, in_first, few, on) = first.splits steps word reads in
-        let (middle, rest, least, goes, in_second, less, ends) = second.splits fewer after_it on in (
+        let (front, later, fewer, is, in_first, few, on) = first.splits steps word reads in
+        let (middle, rest, least, goes, in_second, less, ends) = second.splits fewer later on in (
           front ++ middle,
           rest,
           least,

@@ -1,4 +1,4 @@
--- Numbers that a list contains, and what is read from the nfa with these numbers.
+-- Numbers that a list contains, and what is read from the states with these numbers.
 use Rattle.std.proofs.Common.{◌≡◌, ◌⊎◌, ◌↔◌, inl, inr, ℕ, ◌+◌, ◌<◌, ◌≤◌, Some, None, List, [], ◌∷◌, ◌++◌, take, length, get_or, slice_get, Contains, ap, arith, sym, ◌∙◌, subst}
 use Rattle.std.proofs.lemmas.Bool.{cases_lt}
 use Rattle.std.proofs.lemmas.Option.{slice_get_within, slice_get-get_or}
@@ -14,21 +14,21 @@ same_some x y e = cc
 pub none_some : {X : Type 0} (x : X) → None ≡ Some x → ⊥
 none_some x e = cc
 
--- what stands at an index is contained, and what is contained stands at one
+-- what is at an index is contained, and what is contained is at one
 pub contains_at : (l : List ℕ) (k n : ℕ) → slice_get l k ≡ Some n → Contains l n
 contains_at l k n at = let within : k < length l = slice_get_within l k n at in (k, within, same_some (get_or l k n) n (sym (slice_get-get_or l k n within) ∙ at))
 
 pub at_contains : (l : List ℕ) (n : ℕ) → Contains l n → (k : ℕ) × (slice_get l k ≡ Some n)
 at_contains l n (k, within, is) = (k, slice_get-get_or l k n within ∙ ap (λ m. Some m) is)
 
--- nothing stands at an index
+-- nothing is at an index
 pub none_after : {X : Type 0} (l : List X) (d : X) (k : ℕ) → slice_get l k ≡ None → length l ≤ k
 none_after l d k none = elim (cases_lt k (length l)) [
   | inl less ↦ absurd (none_some (get_or l k d) (sym none ∙ slice_get-get_or l k d less))
   | inr more ↦ more
 ]
 
--- what stands at an index stays there when the list grows
+-- what is at an index stays there when the list grows
 pub still_there : {X : Type 0} (a b : List X) (added : X) (k : ℕ) (x : X) → (b ≡ a) ⊎ (b ≡ a ++ added ∷ []) → slice_get a k ≡ Some x → slice_get b k ≡ Some x
 still_there a b added k x (inl is) at = ap (λ l. slice_get l k) is ∙ at
 still_there a b added k x (inr is) at =

@@ -21,8 +21,8 @@ module _ (nfa : List State) (split next first : ℕ) (L : List ℕ → Type 0) (
   splits_below (suc bound) (suc steps) word low reads = elim (split_reads nfa split next first at steps word reads) [
     | inl goes ↦ ([], word, steps, refl, (0, refl), omega arith, goes)
     | inr goes ↦ (
-        let (front, after_it, fewer, is, has, few, on) = part.splits steps word goes in
-        let (more, rest, least, splits, (count, joined), less, ends) = splits_below bound fewer after_it (omega (arith, low, few)) on in (
+        let (front, later, fewer, is, has, few, on) = part.splits steps word goes in
+        let (more, rest, least, splits, (count, joined), less, ends) = splits_below bound fewer later (omega (arith, low, few)) on in (
           front ++ more,
           rest,
           least,
@@ -63,7 +63,7 @@ module _ (a b c : List State) (split first next : ℕ) (L : List ℕ → Type 0)
   put_there : slice_get c split ≡ Some (Split next first)
   put_there =
       let long : split < length (set b split (Split next first)) = omega (arith, in_b, length-set b split (Split next first)) in
-      ap (λ l. slice_get l split) put ∙ (slice_get-get_or (set b split (Split next first)) split End long ∙ ap (λ p. Some p) (get_or-set_same b split (Split next first) Accept in_b))
+      ap (λ l. slice_get l split) put ∙ (slice_get-get_or (set b split (Split next first)) split Accept long ∙ ap (λ p. Some p) (get_or-set_same b split (Split next first) Accept in_b))
 
   c_length : length c ≡ length b
   c_length = ap length put ∙ length-set b split (Split next first)

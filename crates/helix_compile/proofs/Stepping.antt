@@ -101,7 +101,7 @@ module _ (nfa : List State) where
       from word (inl h) = inl h
       from word (inr h) = inr (every word)
 
-  -- before the first state of the set, after_it one more, and after_it all of them
+  -- before the first state of the set, after one more, and after all of them
   pub leads_none : (set seen : List ℕ) (code : ℕ) → seen ≡ [] → LeadsTo nfa (take 0 set) code seen
   leads_none set seen code empty word = (
     (λ h. absurd (reads_none nfa seen word (ap length empty) h)),

@@ -1,6 +1,6 @@
 -- Sets of states as the states of a machine.
-use Rattle.std.proofs.Common.{◌≡◌, ◌⊎◌, ◌↔◌, inl, inr, ℕ, zero, suc, ◌<◌, ◌≤◌, Bool, true, Option, Some, None, Result, Ok, Err, IfOk, OnOk, List, [], ◌∷◌, ◌++◌, Any, length, slice_get, Contains, ap, arith, refl, sym, ◌∙◌, subst}
-use Rattle.helix_automata.specs.Machine.{LeadsOn}
+use Rattle.std.proofs.Common.{◌≡◌, ◌⊎◌, ◌↔◌, inl, inr, ℕ, zero, suc, ◌<◌, ◌≤◌, Bool, true, Option, Some, None, Result, Ok, Err, IfOk, OnOk, List, [], ◌∷◌, ◌++◌, All, Any, length, slice_get, Contains, ap, arith, refl, sym, ◌∙◌, subst}
+use Rattle.helix_automata.specs.Automaton.{Automaton, Accepts}
 use Rattle.helix_automata.specs.Shape.{IsCharacter}
 use Rattle.helix_compile.specs.declared.nfa.State.{State}
 use Rattle.helix_compile.specs.declared.nfa.State.TheVariants.{Accept, AcceptAll, Fail, Read, Split}
@@ -58,3 +58,11 @@ one_accepts nfa start none seen set empty added has same word = ((λ h. from ((s
 
     from : SomeAccepts nfa seen word → NfaAccepts nfa start word
     from (n, has_n, accepts) = subst (λ m. NfaAccepts nfa m word) (only n added has_n) accepts
+
+-- what is accepted from the first set
+pub accepts_start : {E : Type 0} (r : Result Automaton E) (nfa : List State) (start : ℕ) (set : List ℕ) → ((word : List ℕ) → SomeAccepts nfa set word ↔ NfaAccepts nfa start word)
+    → IfOk r (λ dfa. (word : List ℕ) → All IsCharacter word → Accepts dfa word ↔ SomeAccepts nfa set word)
+    → IfOk r (λ dfa. (word : List ℕ) → All IsCharacter word → Accepts dfa word ↔ NfaAccepts nfa start word)
+accepts_start (Err e) nfa start set same explored = tt
+accepts_start (Ok dfa) nfa start set same explored = λ word characters.
+    let is = explored word characters in ((λ h. (same word).0 (is.0 h)), (λ h. is.1 ((same word).1 h)))

@@ -21,8 +21,8 @@ module _ (L : List ℕ → Type 0) where
   joined_split (suc count) others word joined =
       let next : suc count + others ≡ suc (count + others) = omega arith in
       let (one, more, is, has, rest) = subst (λ n. Joined L n word) next joined in
-      let (front, after_it, splits, first, second) = joined_split count others more rest in
-      (one ++ front, after_it, is ∙ (ap (λ l. one ++ l) splits ∙ sym (append_assoc one front after_it)), (one, front, refl, has, first), second)
+      let (front, later, splits, first, second) = joined_split count others more rest in
+      (one ++ front, later, is ∙ (ap (λ l. one ++ l) splits ∙ sym (append_assoc one front later)), (one, front, refl, has, first), second)
 
   -- the least number and then more
   pub repeats_is : (least : ℕ) (most : Option ℕ) (word : List ℕ) → Both (Joined L least) (RepeatsMore L least most) word ↔ Repeats L least most word

@@ -1,4 +1,4 @@
-//! Numbers of nfa that have been seen.
+//! Numbers of states that have been seen.
 
 ghost use Rattle.std.specs.Prelude.{◌≡◌, ◌⊎◌, OnOk, [], ◌∷◌, ◌++◌, Contains, slice_get};
 
@@ -7,7 +7,7 @@ use indexmap::IndexSet;
 use std::alloc::Global;
 use std::marker::Model;
 
-/// Numbers of nfa, each once, in the order in which they are seen. Contracts see their list.
+/// Numbers of states, each once, in the order in which they are first seen. Contracts see their list.
 #[derive(Drop)]
 pub struct Seen {
     set: IndexSet<u32>,
@@ -22,7 +22,7 @@ impl Model for Seen {
 }
 
 impl Seen {
-    /// No state yet.
+    /// Nothing yet.
     pub fn new(alloc: Global) -> Seen
         ensures { result ≡ [] }
     {

@@ -1,4 +1,4 @@
-use crate::determinize::subsets;
+use crate::determinize::determinize;
 use crate::nfa::{Nfa, State};
 use helix_automata::Dfa;
 use helix_base::{Alphabet, Memory, Text};
@@ -6,13 +6,14 @@ use helix_expr::Ranges;
 use std::alloc::Global;
 use std::test::Fail;
 
-/// A state in a table: `e` the end, `s` none, `r` a character from the first to the last of two codes and then the state
-/// with this number, and `f` a split.
+/// A state in a table: `e` accepts the empty word, `a` every word, `s` none, `r` reads a character from the first to the
+/// last of two codes and then is the state with this number, and `f` is a split.
 type Row = (char, u32, u32, u32);
 
 fn state_of(alloc: Global, row: Row) -> Result<State, Memory> {
     match row {
         ('e', _, _, _) => Ok(State::Accept),
+        ('a', _, _, _) => Ok(State::AcceptAll),
         ('r', first, last, next) => {
             let mut ranges = Ranges::new(alloc);
             ranges.push((first, last))?;
@@ -28,7 +29,7 @@ fn automaton(alloc: Global, rows: &[Row], start: u32) -> Result<Dfa, Memory> {
     for row in rows {
         nfa.add(state_of(alloc, *row)?)?;
     }
-    subsets(alloc, nfa.as_slice(), start)
+    determinize(alloc, nfa.as_slice(), start)
 }
 
 const A: u32 = 97;
@@ -37,12 +38,25 @@ const B: u32 = 98;
 
 #[test]
 fn what_is_read_is_accepted(rt: HostRuntime) -> Result<(), Fail> {
-    let cases: [(&[Row], u32, &[&str], &[&str]); 9] = [
+    let cases: [(&[Row], u32, &[&str], &[&str]); 10] = [
         // The end alone, no word, and a state that isn't there.
         (&[('e', 0, 0, 0)], 0, &[""], &["a"]),
         (&[('s', 0, 0, 0)], 0, &[], &["", "a"]),
         (&[('r', A, A, 7)], 0, &[], &["", "a"]),
         (&[], 3, &[], &["", "a"]),
+        // Every word, and every word after an a, beside b.
+        (
+            &[
+                ('a', 0, 0, 0),
+                ('e', 0, 0, 0),
+                ('r', A, A, 0),
+                ('r', B, B, 1),
+                ('f', 2, 3, 0),
+            ],
+            4,
+            &["a", "ab", "a\u{10ffff} ", "b"],
+            &["", "ba", "c"],
+        ),
         // One character of a range, with its ends and their neighbours.
         (
             &[('e', 0, 0, 0), ('r', A, 122, 0)],
@@ -57,9 +71,9 @@ fn what_is_read_is_accepted(rt: HostRuntime) -> Result<(), Fail> {
             &[" ", "\u{a0}", "\u{10ffff}"],
             &["", "ab"],
         ),
-        // A range that is turned round.
+        // A range that is reversed.
         (&[('e', 0, 0, 0), ('r', B, A, 0)], 1, &[], &["", "a", "b"]),
-        // A circle of forks that reads a and b as often as it will.
+        // Splits in a circle that reads a and b as often as it will.
         (
             &[
                 ('f', 1, 2, 0),
@@ -105,7 +119,7 @@ fn answer(dfa: &Dfa, word: &Text) -> bool {
     word.codes().iter().all(|code| Alphabet::Unicode.has(*code)) && dfa.accepts(word.codes())
 }
 
-/// The nfa of a word of a and b whose character so many before the last one is an a.
+/// The automaton of a word of a and b whose character n before the last one is an a.
 fn a_before(alloc: Global, count: u8) -> Result<Dfa, Memory> {
     let count = u32::from(count);
     let mut nfa = Nfa::new(alloc);
@@ -117,7 +131,7 @@ fn a_before(alloc: Global, count: u8) -> Result<Dfa, Memory> {
     nfa.add(state_of(alloc, ('r', A, A, count))?)?;
     nfa.add(state_of(alloc, ('r', A, B, split))?)?;
     nfa.add(State::Split(any, chosen))?;
-    subsets(alloc, nfa.as_slice(), split)
+    determinize(alloc, nfa.as_slice(), split)
 }
 
 #[test]

@@ -16,8 +16,8 @@ loop-done-preserved c = closing_more c.args.nfa.now c.args.seen.now c.loop-done.
 
 pub returns-then-accepts_all_at-clause-same : goal.returns-then-accepts_all_at-clause-same
 returns-then-accepts_all_at-clause-same c = all_same c.args.nfa.now c.args.seen.now c.loop-done.seen c.loop-done.found.items c.push.new.self.items c.loop-done.done c.in-Some.number c.loop-done.invariant
-    (sym c.in-Some.ensures) (c.accepts_all_at.ensures.0 c.if-accepts_all_at.true) (c.in_ok-push.ensures.items ∙ ap (λ l. l ++ c.in-Some.number ∷ []) c.clear-in-loop-done.ensures.items)
+    (sym c.in-Some.ensures) (c.accepts_all_at.ensures.0 c.if-accepts_all_at.true) (c.in_ok-push.ensures.items ∙ ap (λ l. l ++ c.in-Some.number ∷ []) c.clear-then-accepts_all_at.ensures.items)
 
 pub returns-then-accepts_all_at-clause-no_split : goal.returns-then-accepts_all_at-clause-no_split
 returns-then-accepts_all_at-clause-no_split c = all_no_split c.args.nfa.now c.args.seen.now c.loop-done.seen c.loop-done.found.items c.push.new.self.items c.loop-done.done c.in-Some.number c.loop-done.invariant
-    (sym c.in-Some.ensures) (c.accepts_all_at.ensures.0 c.if-accepts_all_at.true) (c.in_ok-push.ensures.items ∙ ap (λ l. l ++ c.in-Some.number ∷ []) c.clear-in-loop-done.ensures.items)
+    (sym c.in-Some.ensures) (c.accepts_all_at.ensures.0 c.if-accepts_all_at.true) (c.in_ok-push.ensures.items ∙ ap (λ l. l ++ c.in-Some.number ∷ []) c.clear-then-accepts_all_at.ensures.items)

@@ -12,8 +12,8 @@ returns-then-accepts_all_at c = notes_all c.args.nfa.now c.args.number c.args.co
     (c.accepts_all_at.ensures.0 c.if-accepts_all_at.true) c.note.ensures.seen c.note.ensures.added
 
 pub returns-then-in_ranges : goal.returns-then-in_ranges
-returns-then-in_ranges c = notes_next c.args.nfa.now c.args.number c.args.code c.args.seen.now c.note-2.new.self c.in-Some.ranges.now c.in-Some.next
-    c.in-Some.ensures.some (sym c.in_ranges.ensures ∙ c.if-in_ranges.true) c.note-2.result c.note-2.ensures.seen c.note-2.ensures.added
+returns-then-in_ranges c = notes_next c.args.nfa.now c.args.number c.args.code c.args.seen.now c.note-then-in_ranges.new.self c.in-Some.ranges.now c.in-Some.next
+    c.in-Some.ensures.some (sym c.in_ranges.ensures ∙ c.if-in_ranges.true) c.note-then-in_ranges.result c.note-then-in_ranges.ensures.seen c.note-then-in_ranges.ensures.added
 
 pub returns-else-in_ranges : goal.returns-else-in_ranges
 returns-else-in_ranges c = notes_unlisted c.args.nfa.now c.args.number c.args.code c.args.seen.now c.in-Some.ranges.now c.in-Some.next

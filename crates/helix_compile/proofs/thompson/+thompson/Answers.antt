@@ -1,9 +1,12 @@
-use Rattle.std.proofs.Common.{◌≡◌, [], sym, subst, arith, append-nil}
-use Rattle.helix_expr.specs.Matching.{Matches, Joined}
+use Rattle.std.proofs.Common.{◌≡◌, List, [], ◌∷◌, sym, subst, arith, append-nil}
+use Rattle.helix_expr.specs.declared.expr.Expr.{Expr}
+use Rattle.helix_expr.specs.Matching.{Matches, MatchSome, Joined}
+use Rattle.helix_compile.specs.declared.nfa.State.{State}
+use Rattle.helix_compile.specs.Inner.Alternatives.{AreAlternatives}
 use Rattle.helix_compile.specs.Inner.Nfa.{Builds}
 use Rattle.helix_compile.specs.Inner.Repeats.{UpToNumber}
-use Rattle.helix_compile.proofs.Arms.{empty_arm, chars_arm, seq_arm, alt_arm, repeat_arm, star_arm, stop_arm, optional_arm, repeated_arm, ok_grows, in_order_more, times_more, optional_start, optional_more, unasked_arm, never_arm, once_arm}
-use Rattle.helix_compile.proofs.Gathering.{alternatives_none, alternative_gathered, alternative_built}
+use Rattle.helix_compile.proofs.Arms.{parts_split, ok_map, empty_arm, chars_arm, seq_arm, alt_arm, repeat_arm, star_arm, stop_arm, optional_arm, repeated_arm, ok_grows, in_order_more, times_more, optional_start, optional_more, unasked_arm, never_arm, once_arm}
+use Rattle.helix_compile.proofs.Gathering.{alternatives_none, alternative_gathered, alternative_built, ok_grows_more, all_built}
 use Rattle.helix_compile.proofs.Stars.{builds_star}
 use Rattle.helix_compile.proofs.thompson.+thompson.Goals as goal
 
@@ -37,8 +40,8 @@ pub build_more-returns-in-None-clause-leads : goal.build_more-returns-in-None-cl
 build_more-returns-in-None-clause-leads t c = star_arm c.args.nfa.now c.build_star.new.nfa c.args.next (Matches c.args.part.now) c.args.limits.0 c.args.limits.1 c.build_star.result c.in-None.is c.build_star.ensures.leads
 
 pub build_repeat-returns-clause-leads : goal.build_repeat-returns-clause-leads
-build_repeat-returns-clause-leads t c = repeated_arm c.args.nfa.now c.build_more.new.nfa c.build_times.new.nfa c.in_ok-after_it.after_it c.args.next c.args.limits.0 c.args.limits.1 (Matches c.args.part.now)
-    c.build_times.result c.in_ok-after_it.ensures.grows c.in_ok-after_it.ensures.leads c.build_times.ensures.grows c.build_times.ensures.leads
+build_repeat-returns-clause-leads t c = repeated_arm c.args.nfa.now c.build_more.new.nfa c.build_times.new.nfa c.in_ok-rest.rest c.args.next c.args.limits.0 c.args.limits.1 (Matches c.args.part.now)
+    c.build_times.result c.in_ok-rest.ensures.grows c.in_ok-rest.ensures.leads c.build_times.ensures.grows c.build_times.ensures.leads
 
 pub build_more-returns-then-most-limits-clause-leads : goal.build_more-returns-then-most-limits-clause-leads
 build_more-returns-then-most-limits-clause-leads t c = stop_arm c.args.nfa.now c.add.new.self c.args.next (Matches c.args.part.now) c.args.limits.0 c.in-Some.most c.args.limits.1 c.add.result
@@ -103,4 +106,17 @@ build_alternatives-loop-left-init t c = (
 )
 
 pub build_alternatives-loop-left-preserved : goal.build_alternatives-loop-left-preserved
-build_alternatives-loop-left-preserved t c = ?
+build_alternatives-loop-left-preserved t c = (
+  c.part-item.result ∷ c.loop-left.invariant.0,
+  parts_split [] [] [] c.args.parts.now c.loop-left.left.now c.loop-left.invariant.0 c.part-item.result c.loop-left.invariant.1 c.in-len1-up.len_at_least c.part-item.is,
+  c.in_ok-first-2.ensures c.args.nfa.now c.loop-left.invariant.0 c.loop-left.invariant.2,
+)
+
+pub build_alternatives-returns-clause-grows : goal.build_alternatives-returns-clause-grows
+build_alternatives-returns-clause-grows t c = ok_grows_more c.args.nfa.now c.loop-left.nfa c.build_chars.new.nfa c.build_chars.result c.loop-left.invariant.2.grows c.build_chars.ensures.grows
+
+pub build_alternatives-returns-clause-leads : goal.build_alternatives-returns-clause-leads
+build_alternatives-returns-clause-leads t c = all_built c.args.nfa.now c.build_chars.new.nfa c.args.parts.now c.loop-left.left.now c.loop-left.invariant.0 c.args.next c.build_chars.result c.loop-left.invariant.1
+    c.in_default.len_below (ok_map (λ first. (start : List State) (done : List Expr) → AreAlternatives start c.loop-left.nfa c.loop-left.first c.loop-left.chars done c.args.next → Builds start c.build_chars.new.nfa first (MatchSome done) c.args.next)
+    (λ first. Builds c.args.nfa.now c.build_chars.new.nfa first (MatchSome c.loop-left.invariant.0) c.args.next) c.build_chars.result (λ first h. h c.args.nfa.now c.loop-left.invariant.0 c.loop-left.invariant.2) c.build_chars.ensures.leads)
+

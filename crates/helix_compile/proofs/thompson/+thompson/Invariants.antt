@@ -36,7 +36,7 @@ decreases-build_optional l = goal.size-build_optional l * 8 + 1
 abbrev pub decreases-build_times : goal.decreases-build_times
 decreases-build_times l = goal.size-build_times l * 8 + 1
 
--- the parts after_it those that are left are laid out
+-- the parts after those that are left are built
 abbrev pub invariant-build_in_order-loop-left : goal.invariant-build_in_order-loop-left
 invariant-build_in_order-loop-left l = Grows l.initial.nfa l.nfa
     × ((done : List Expr) × (l.parts ≡ l.left ++ done) × Builds l.initial.nfa l.nfa l.first (MatchInOrder done) l.next)
