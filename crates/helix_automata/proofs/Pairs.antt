@@ -14,7 +14,8 @@ abbrev pub ArePair : Automaton → Automaton → ℕ × ℕ → Type 0
 ArePair left right pair = (pair.0 < length left.moves) × (pair.1 < length right.moves)
 
 -- after a character that leads to one state
-pub leads_one : (automaton : Automaton) (state code next : ℕ) → target (arcs_of automaton state) code ≡ Some next → (word : List ℕ)
+pub leads_one : (automaton : Automaton) (state code next : ℕ) → target (arcs_of automaton state) code ≡ Some next
+    → (word : List ℕ)
     → AcceptsFrom automaton next word ↔ AcceptsFrom automaton state (code ∷ word)
 leads_one automaton state code next leads word = (
   (λ h. (next, leads, h)),
@@ -22,16 +23,21 @@ leads_one automaton state code next leads word = (
 )
 
 -- a pair leads to the pair of the states to which its two lead
-pub pair_leads : (left right : Automaton) (pair : ℕ × ℕ) (left_arcs right_arcs : List Arc) (first left_last right_last last left_to right_to : ℕ)
-    → left_arcs ≡ arcs_of left pair.0 → right_arcs ≡ arcs_of right pair.1 → first ≤ left_last → first ≤ right_last → last ≡ min left_last right_last → left_to < length left.moves → right_to < length right.moves
+pub pair_leads : (left right : Automaton) (pair : ℕ × ℕ) (left_arcs right_arcs : List Arc)
+    (first left_last right_last last left_to right_to : ℕ)
+    → left_arcs ≡ arcs_of left pair.0 → right_arcs ≡ arcs_of right pair.1 → first ≤ left_last → first ≤ right_last
+    → last ≡ min left_last right_last → left_to < length left.moves → right_to < length right.moves
     → ((code : ℕ) → IsCharacter code → first ≤ code → code ≤ left_last → target left_arcs code ≡ Some left_to)
     → ((code : ℕ) → IsCharacter code → first ≤ code → code ≤ right_last → target right_arcs code ≡ Some right_to)
     → LeadsOn (ArePair left right) (PairWords left right) pair first last (left_to, right_to)
-pair_leads left right pair left_arcs right_arcs first left_last right_last last left_to right_to left_are right_are left_reaches right_reaches is left_in right_in left_leads right_leads = record {
-  reached = omega (arith, left_reaches, right_reaches, is);
-  is_state = (left_in, right_in);
-  leads = λ code character low high word.
-      let one = leads_one left pair.0 code left_to (ap (λ l. target l code) (sym left_are) ∙ left_leads code character low (omega (arith, high, is))) word in
-      let other = leads_one right pair.1 code right_to (ap (λ l. target l code) (sym right_are) ∙ right_leads code character low (omega (arith, high, is))) word in
-      ((λ h. (one.0 h.0, other.0 h.1)), (λ h. (one.1 h.0, other.1 h.1)));
-}
+pair_leads left right pair left_arcs right_arcs first left_last right_last last left_to right_to left_are right_are
+    left_reaches right_reaches is left_in right_in left_leads right_leads = record {
+      reached = omega (arith, left_reaches, right_reaches, is);
+      is_state = (left_in, right_in);
+      leads = λ code character low high word.
+          let one = leads_one left pair.0 code left_to (ap (λ l. target l code) (sym left_are)
+          ∙ left_leads code character low (omega (arith, high, is))) word in
+          let other = leads_one right pair.1 code right_to (ap (λ l. target l code) (sym right_are)
+          ∙ right_leads code character low (omega (arith, high, is))) word in
+          ((λ h. (one.0 h.0, other.0 h.1)), (λ h. (one.1 h.0, other.1 h.1)));
+    }

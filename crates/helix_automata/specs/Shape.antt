@@ -1,19 +1,13 @@
 -- The shape of an automaton: from each state each character leads to one state.
-use Rattle.std.specs.Prelude.{◌≡◌, ℕ, ◌<◌, ◌≤◌, ◌^◌, IsTrue, List, [], ◌∷◌, length, All, Option, Some, IfSome, IfNone}
-use Rattle.helix_base.specs.Alphabet.{IsCharacterOf, ranges_of}
+use Rattle.std.specs.Prelude.{◌≡◌, ℕ, ◌<◌, ◌≤◌, ◌^◌, IsTrue, List, [], ◌∷◌, length, All, Some}
+use Rattle.helix_base.specs.Alphabet.{IsCharacterOf}
 use Rattle.helix_base.specs.declared.alphabet.Alphabet.TheVariants.{Unicode}
-use Rattle.helix_base.specs.Ranges.{IsLeastFrom, EndsBelow}
 use Rattle.helix_automata.specs.declared.arc.Arc.{Arc}
 use Rattle.helix_automata.specs.Automaton.{Automaton, holds, target}
 
 -- a code is a character of the alphabet over which automata work
 abbrev pub IsCharacter : ℕ → Type 0
 IsCharacter code = IsCharacterOf Unicode code
-
--- the least character that isn't below a bound, if there is one
-pub record IsNextCharacter (bound : ℕ) (next : Option ℕ) : Type 0 where
-  pub some : IfSome next (IsLeastFrom (ranges_of Unicode) bound)
-  pub none : IfNone next (EndsBelow (ranges_of Unicode) bound)
 
 -- each arc ends below the beginning of the next one
 abbrev pub AreInOrder : List Arc → Type 0

@@ -45,7 +45,8 @@ impl Dfa {
     /// The automaton with these moves and accepting states; state 0 is the start.
     pub fn build(moves: Moves, accepting: Flags) -> Result<Dfa, DfaFault>
         ensures ok { IfOk result (λ dfa. (dfa.moves ≡ moves) × (dfa.accepting ≡ accepting)) }
-        ensures shape { IsErrOf result DfaFault.Shape ↔ (IsWellFormed (record { moves = moves; accepting = accepting }) → ⊥) }
+        ensures shape { IsErrOf result DfaFault.Shape
+            ↔ (IsWellFormed (record { moves = moves; accepting = accepting }) → ⊥) }
     {
         let states = moves.as_slice().len();
         if states == 0 || states > u32::MAX as usize || accepting.as_slice().len() != states {
@@ -145,7 +146,8 @@ impl Dfa {
 
     /// The automaton that accepts the words over the alphabet that this one doesn't.
     pub fn complement(&self, alloc: Global) -> Result<Dfa, Memory>
-        ensures { IfOk result (λ other. (word : List ℕ) → All IsCharacter word → Accepts other word ↔ (Accepts self.now word → ⊥)) }
+        ensures { IfOk result (λ other. (word : List ℕ) → All IsCharacter word → Accepts other word
+            ↔ (Accepts self.now word → ⊥)) }
     {
         let mut flags = Flags::new(alloc);
         for flag in self.flags.as_slice() {

@@ -42,7 +42,8 @@ pub trait Machine {
         requires character { IsCharacter first }
         ensures { IfOk result (λ next. LeadsOn (IsState self.now) (Words self.now) state.now first next.1 next.0) };
 
-    ghost same_words: { (machine : Self) (one other : Self.State) → Self.State.PartialEq.eq one other ≡ true → (word : List ℕ) → Words machine one word ↔ Words machine other word };
+    ghost same_words: { (machine : Self) (one other : Self.State) → Self.State.PartialEq.eq one other ≡ true
+        → (word : List ℕ) → Words machine one word ↔ Words machine other word };
 }
 
 /// The arcs of the state with a number, by the numbers of the states to which they lead.
@@ -80,7 +81,8 @@ pub fn explore<M: Machine>(
     scratch: &mut M::Scratch,
 ) -> Result<Dfa, Memory>
     requires { M.IsState machine.now start }
-    ensures { IfOk result (λ dfa. (word : List ℕ) → All IsCharacter word → Accepts dfa word ↔ M.Words machine.now start word) }
+    ensures { IfOk result (λ dfa. (word : List ℕ) → All IsCharacter word → Accepts dfa word
+        ↔ M.Words machine.now start word) }
 {
     let mut states = Numbered::new(alloc);
     states.number(start)?;

@@ -32,7 +32,8 @@ pub fn arc_of(arcs: &[Arc], code: u32) -> Arc
     requires character { IsCharacter code }
     ensures named { (states : ℕ) → AreArcs states arcs.now → result.to < states }
     ensures reaches { code ≤ result.last }
-    ensures leads { (other : ℕ) → IsCharacter other → code ≤ other → other ≤ result.last → target arcs.now other ≡ Some result.to }
+    ensures leads { (other : ℕ) → IsCharacter other → code ≤ other → other ≤ result.last
+        → target arcs.now other ≡ Some result.to }
 {
     arcs[first_reaching(arcs, code)]
 }

@@ -41,7 +41,8 @@ impl<S: Eq + Hash + Drop> Numbered<S> {
 
     /// The number of a thing, which is added where none is equal to it.
     pub fn number(&mut self, thing: S) -> Result<u32, Memory>
-        ensures number { IfOk result (λ number. (equal : S) × (slice_get self.new number ≡ Some equal) × (S.PartialEq.eq thing equal ≡ true)) }
+        ensures number { IfOk result (λ number. (equal : S) × (slice_get self.new number ≡ Some equal)
+            × (S.PartialEq.eq thing equal ≡ true)) }
         ensures added { OnOk result ((self.new ≡ self.old) ⊎ (self.new ≡ self.old ++ thing ∷ [])) }
     {
         let (number, _) = self.set.insert_full(thing)?;

@@ -1,8 +1,8 @@
 //! The arcs of a state while they are made.
 
 ghost use Rattle.std.specs.Prelude.{ℕ, ◌≡◌, ◌≤◌, Some, None, [], OnOk, OnErr};
-ghost use Rattle.helix_automata.specs.Shape.{AreArcs, IsNextCharacter};
-ghost use Rattle.helix_automata.specs.Inner.Row.{AreNamed, LeadsMore};
+ghost use Rattle.helix_automata.specs.Shape.{AreArcs};
+ghost use Rattle.helix_automata.specs.Inner.Row.{IsNextCharacter, AreNamed, LeadsMore};
 ghost use Rattle.helix_automata.specs.Inner.WithArc.{with_arc};
 
 use crate::arc::{Arc, Arcs};

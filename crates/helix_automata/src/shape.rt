@@ -1,7 +1,8 @@
 //! Whether arcs have the shape that an automaton asks for.
 
 ghost use Rattle.std.specs.Prelude.{◌↔◌, IsTrue, All, ◌<◌, ◌+◌};
-ghost use Rattle.helix_automata.specs.Shape.{AreInOrder, AreArcs, LeadOn, HasCharacter, IsNextCharacter};
+ghost use Rattle.helix_automata.specs.Shape.{AreInOrder, AreArcs, LeadOn, HasCharacter};
+ghost use Rattle.helix_automata.specs.Inner.Row.{IsNextCharacter};
 
 use crate::arc::{Arc, Arcs};
 use helix_base::Alphabet;

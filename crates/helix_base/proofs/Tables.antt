@@ -16,17 +16,21 @@ first_range range [] e = leb-true range.0 range.1 e
 first_range range (next ∷ ranges) e = leb-true range.0 range.1 (and_parts _ _ (and_parts _ _ e).0).0
 
 -- what later ranges list is above the first one
-later_above : (range : ℕ × ℕ) (ranges : List (ℕ × ℕ)) (code : ℕ) → are_in_order (range ∷ ranges) ≡ true → in_ranges ranges code ≡ true → range.1 < code
+later_above : (range : ℕ × ℕ) (ranges : List (ℕ × ℕ)) (code : ℕ) → are_in_order (range ∷ ranges) ≡ true
+    → in_ranges ranges code ≡ true → range.1 < code
 later_above range [] code e listed = absurd (cc)
 later_above range (next ∷ ranges) code e listed =
     let apart : range.1 < next.0 = leb-true (suc range.1) next.0 (and_parts _ _ (and_parts _ _ e).0).1 in
     let order : are_in_order (next ∷ ranges) ≡ true = (and_parts _ _ e).1 in
     elim (or_cases _ _ listed) [
       | inl here ↦ (let within : (next.0 ≤ code) × (code ≤ next.1) = in_range code next here in omega arith)
-      | inr later ↦ (let above : next.1 < code = later_above next ranges code order later in let turned : next.0 ≤ next.1 = first_range next ranges order in omega arith)
+      | inr later ↦ (let above : next.1 < code =
+          later_above next ranges code order later in let turned : next.0 ≤ next.1 =
+          first_range next ranges order in omega arith)
     ]
 
-pub IsLeastFrom-first : (range : ℕ × ℕ) (ranges : List (ℕ × ℕ)) (bound code : ℕ) → are_in_order (range ∷ ranges) ≡ true → bound ≤ range.1 → code ≡ max bound range.0
+pub IsLeastFrom-first : (range : ℕ × ℕ) (ranges : List (ℕ × ℕ)) (bound code : ℕ) → are_in_order (range ∷ ranges) ≡ true
+    → bound ≤ range.1 → code ≡ max bound range.0
     → IsLeastFrom (range ∷ ranges) bound code
 IsLeastFrom-first range ranges bound code order within is =
     let turned : range.0 ≤ range.1 = first_range range ranges order in

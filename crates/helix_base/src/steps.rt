@@ -49,7 +49,10 @@ impl<L: Ledger> Model for Steps<L> {
 
     ghost Value = { Tally L };
 
-    ghost view = { λ steps. record { counts = record { domain = steps.domain; moves = steps.moves }; ledger = steps.ledger } };
+    ghost view = { λ steps. record {
+      counts = record { domain = steps.domain; moves = steps.moves };
+      ledger = steps.ledger;
+    } };
 }
 
 impl<L: Ledger> Steps<L> {

@@ -26,20 +26,26 @@ quiet_some (part ∷ parts) (first, others) word (inr more) = quiet_some parts o
 
 pub quiet_joined : (L : List ℕ → Type 0) → Quiet L → (count : ℕ) → Quiet (Joined L count)
 quiet_joined L quiet zero word empty = empty
-quiet_joined L quiet (suc count) word (front, rest, is, has, more) = is ∙ (ap (λ l. l ++ rest) (quiet front has) ∙ quiet_joined L quiet count rest more)
+quiet_joined L quiet (suc count) word (front, rest, is, has, more) = is
+    ∙ (ap (λ l. l ++ rest) (quiet front has) ∙ quiet_joined L quiet count rest more)
 
 never_joined : (L : List ℕ → Type 0) (count : ℕ) → count ≤ 0 → Quiet (Joined L count)
 never_joined L zero few word empty = empty
 never_joined L (suc count) few word joined = absurd (omega (arith, few))
 
-pub seq_quiet : (expr : Expr) (parts lent : List Expr) → expr ≡ Seq parts → lent ≡ parts → Quiet (MatchInOrder lent) → Quiet (Matches expr)
-seq_quiet expr parts lent is same quiet = subst Quiet (ap MatchInOrder same ∙ (sym (Matches-Seq parts) ∙ ap Matches (sym is))) quiet
+pub seq_quiet : (expr : Expr) (parts lent : List Expr) → expr ≡ Seq parts → lent ≡ parts → Quiet (MatchInOrder lent)
+    → Quiet (Matches expr)
+seq_quiet expr parts lent is same quiet =
+    subst Quiet (ap MatchInOrder same ∙ (sym (Matches-Seq parts) ∙ ap Matches (sym is))) quiet
 
-pub alt_quiet : (expr : Expr) (parts lent : List Expr) → expr ≡ Alt parts → lent ≡ parts → Quiet (MatchSome lent) → Quiet (Matches expr)
+pub alt_quiet : (expr : Expr) (parts lent : List Expr) → expr ≡ Alt parts → lent ≡ parts → Quiet (MatchSome lent)
+    → Quiet (Matches expr)
 alt_quiet expr parts lent is same quiet word matches =
-    quiet word (subst (λ l. MatchSome l word) (sym same) (subst (λ T. T) (Matches-Alt parts word) (subst (λ e. Matches e word) is matches)))
+    quiet word (subst (λ l. MatchSome l word) (sym same)
+    (subst (λ T. T) (Matches-Alt parts word) (subst (λ e. Matches e word) is matches)))
 
-pub repeat_quiet : (expr part lent : Expr) (least : ℕ) (most : Option ℕ) → expr ≡ Repeat part least most → lent ≡ part → Quiet (Matches lent) → Quiet (Matches expr)
+pub repeat_quiet : (expr part lent : Expr) (least : ℕ) (most : Option ℕ) → expr ≡ Repeat part least most → lent ≡ part
+    → Quiet (Matches lent) → Quiet (Matches expr)
 repeat_quiet expr part lent least most is same quiet word matches =
     let (count, low, high, joined) = (Matches-Repeat part least most word).0 (subst (λ e. Matches e word) is matches) in
     quiet_joined (Matches part) (subst (λ e. Quiet (Matches e)) same quiet) count word joined
@@ -53,7 +59,8 @@ joined_silent : (L : List ℕ → Type 0) → L [] → (count : ℕ) → Joined 
 joined_silent L has zero = refl
 joined_silent L has (suc count) = ([], [], refl, has, joined_silent L has count)
 
-pub none_asked : (L : List ℕ → Type 0) (most : Option ℕ) → Quiet L → (word : List ℕ) → (word ≡ []) ↔ Repeats L 0 most word
+pub none_asked : (L : List ℕ → Type 0) (most : Option ℕ) → Quiet L → (word : List ℕ) → (word ≡ [])
+    ↔ Repeats L 0 most word
 none_asked L most quiet word = (
   (λ empty. (0, omega arith, allowed most, empty)),
   (λ (count, low, high, joined). quiet_joined L quiet count word joined),
@@ -63,7 +70,8 @@ none_asked L most quiet word = (
     allowed None = tt
     allowed (Some limit) = omega arith
 
-pub once_asked : (L : List ℕ → Type 0) (least : ℕ) (most : Option ℕ) → Quiet L → 1 ≤ least → UpTo most least → (word : List ℕ) → L word ↔ Repeats L least most word
+pub once_asked : (L : List ℕ → Type 0) (least : ℕ) (most : Option ℕ) → Quiet L → 1 ≤ least → UpTo most least
+    → (word : List ℕ) → L word ↔ Repeats L least most word
 once_asked L least most quiet some allowed word = (
   (λ has. let empty = quiet word has in
       (least, omega arith, allowed, subst (Joined L least) (sym empty) (joined_silent L (subst L empty has) least))),
@@ -76,8 +84,10 @@ once_asked L least most quiet some allowed word = (
         let empty : word ≡ [] = is ∙ (ap (λ l. l ++ rest) (quiet front has) ∙ quiet_joined L quiet count rest more) in
         subst L (quiet front has ∙ sym empty) has
 
-pub too_few_allowed : (L : List ℕ → Type 0) (least : ℕ) (most : Option ℕ) → ¬ (UpTo most least) → (word : List ℕ) → ⊥ ↔ Repeats L least most word
-too_few_allowed L least most never word = ((λ no. absurd no), (λ (count, low, high, joined). never (fewer most count low high)))
+pub too_few_allowed : (L : List ℕ → Type 0) (least : ℕ) (most : Option ℕ) → ¬ (UpTo most least) → (word : List ℕ) → ⊥
+    ↔ Repeats L least most word
+too_few_allowed L least most never word =
+    ((λ no. absurd no), (λ (count, low, high, joined). never (fewer most count low high)))
   where
     fewer : (m : Option ℕ) (count : ℕ) → least ≤ count → UpTo m count → UpTo m least
     fewer None count low high = tt

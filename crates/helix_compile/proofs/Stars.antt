@@ -10,11 +10,14 @@ use Rattle.helix_compile.specs.Inner.Repeats.{AnyNumber}
 use Rattle.helix_compile.proofs.Leading.{split_reads, split_first, split_second}
 use Rattle.helix_compile.proofs.Building.{grows_push}
 
-module _ (nfa : List State) (split next first : ℕ) (L : List ℕ → Type 0) (at : slice_get nfa split ≡ Some (Split next first)) (part : LeadsThrough nfa first L split) where
+module _ (nfa : List State) (split next first : ℕ) (L : List ℕ → Type 0)
+    (at : slice_get nfa split ≡ Some (Split next first)) (part : LeadsThrough nfa first L split) where
   Splits : ℕ → List ℕ → Type 0
-  Splits steps word = (front : List ℕ) × (rest : List ℕ) × (fewer : ℕ) × (word ≡ front ++ rest) × AnyNumber L front × (fewer ≤ steps) × NfaAcceptsIn nfa fewer next rest
+  Splits steps word = (front : List ℕ) × (rest : List ℕ) × (fewer : ℕ) × (word ≡ front ++ rest) × AnyNumber L front
+      × (fewer ≤ steps) × NfaAcceptsIn nfa fewer next rest
 
-  splits_below : (bound steps : ℕ) (word : List ℕ) → steps ≤ bound → NfaAcceptsIn nfa steps split word → Splits steps word
+  splits_below : (bound steps : ℕ) (word : List ℕ) → steps ≤ bound → NfaAcceptsIn nfa steps split word
+      → Splits steps word
   unfolding Splits
   splits_below bound zero word low reads = absurd reads
   splits_below zero (suc steps) word low reads = absurd (omega (arith, low))
@@ -22,7 +25,8 @@ module _ (nfa : List State) (split next first : ℕ) (L : List ℕ → Type 0) (
     | inl goes ↦ ([], word, steps, refl, (0, refl), omega arith, goes)
     | inr goes ↦ (
         let (front, later, fewer, is, has, few, on) = part.splits steps word goes in
-        let (more, rest, least, splits, (count, joined), less, ends) = splits_below bound fewer later (omega (arith, low, few)) on in (
+        let (more, rest, least, splits, (count, joined), less, ends) =
+        splits_below bound fewer later (omega (arith, low, few)) on in (
           front ++ more,
           rest,
           least,
@@ -33,11 +37,14 @@ module _ (nfa : List State) (split next first : ℕ) (L : List ℕ → Type 0) (
         ))
   ]
 
-  joins_times : (count : ℕ) (front rest : List ℕ) → Joined L count front → NfaAccepts nfa next rest → NfaAccepts nfa split (front ++ rest)
-  joins_times zero front rest empty reads = subst (λ f. NfaAccepts nfa split (f ++ rest)) (sym empty) (split_first nfa split next first at rest reads)
+  joins_times : (count : ℕ) (front rest : List ℕ) → Joined L count front → NfaAccepts nfa next rest
+      → NfaAccepts nfa split (front ++ rest)
+  joins_times zero front rest empty reads =
+      subst (λ f. NfaAccepts nfa split (f ++ rest)) (sym empty) (split_first nfa split next first at rest reads)
   joins_times (suc count) front rest (one, more, is, has, joined) reads =
       subst (λ l. NfaAccepts nfa split l) (sym (ap (λ l. l ++ rest) is ∙ append_assoc one more rest))
-      (split_second nfa split next first at (one ++ (more ++ rest)) (part.joins one (more ++ rest) has (joins_times count more rest joined reads)))
+      (split_second nfa split next first at (one ++ (more ++ rest))
+      (part.joins one (more ++ rest) has (joins_times count more rest joined reads)))
 
   pub leads_star : LeadsThrough nfa split (AnyNumber L) next
   unfolding Splits
@@ -47,7 +54,8 @@ module _ (nfa : List State) (split next first : ℕ) (L : List ℕ → Type 0) (
   }
 
 -- the split is put where a state was kept for it
-module _ (a b c : List State) (split first next : ℕ) (L : List ℕ → Type 0) (kept : List State) (is : kept ≡ a ++ Fail ∷ []) (at : split ≡ length a) (grows : Grows kept b) (put : c ≡ set b split (Split next first)) where
+module _ (a b c : List State) (split first next : ℕ) (L : List ℕ → Type 0) (kept : List State) (is : kept ≡ a
+    ++ Fail ∷ []) (at : split ≡ length a) (grows : Grows kept b) (put : c ≡ set b split (Split next first)) where
   kept_length : length kept ≡ suc (length a)
   kept_length = ap length is ∙ (length-append a (Fail ∷ []) ∙ omega arith)
 
@@ -56,14 +64,19 @@ module _ (a b c : List State) (split first next : ℕ) (L : List ℕ → Type 0)
 
   same_behind : (k : ℕ) → k ≢ split → k < length b → slice_get c k ≡ slice_get b k
   same_behind k other within =
-      let long : k < length (set b split (Split next first)) = omega (arith, within, length-set b split (Split next first)) in
+      let long : k < length (set b split (Split next first)) =
+      omega (arith, within, length-set b split (Split next first)) in
       ap (λ l. slice_get l k) put ∙ (slice_get-get_or (set b split (Split next first)) k Accept long
-      ∙ (ap (λ p. Some p) (get_or-set_other b split k (Split next first) Accept other) ∙ sym (slice_get-get_or b k Accept within)))
+      ∙ (ap (λ p. Some p) (get_or-set_other b split k (Split next first) Accept other)
+      ∙ sym (slice_get-get_or b k Accept within)))
 
   put_there : slice_get c split ≡ Some (Split next first)
   put_there =
-      let long : split < length (set b split (Split next first)) = omega (arith, in_b, length-set b split (Split next first)) in
-      ap (λ l. slice_get l split) put ∙ (slice_get-get_or (set b split (Split next first)) split Accept long ∙ ap (λ p. Some p) (get_or-set_same b split (Split next first) Accept in_b))
+      let long : split < length (set b split (Split next first)) =
+      omega (arith, in_b, length-set b split (Split next first)) in
+      ap (λ l. slice_get l split) put
+      ∙ (slice_get-get_or (set b split (Split next first)) split Accept long
+      ∙ ap (λ p. Some p) (get_or-set_same b split (Split next first) Accept in_b))
 
   c_length : length c ≡ length b
   c_length = ap length put ∙ length-set b split (Split next first)
@@ -71,7 +84,8 @@ module _ (a b c : List State) (split first next : ℕ) (L : List ℕ → Type 0)
   pub grows_circle : Grows a c
   grows_circle = record {
     longer = omega (arith, c_length, kept_length, grows.longer);
-    keeps = λ k within. same_behind k (λ e. omega (arith, e, at, within)) (omega (arith, within, kept_length, grows.longer))
+    keeps = λ k within. same_behind k (λ e. omega (arith, e, at, within))
+        (omega (arith, within, kept_length, grows.longer))
         ∙ (grows.keeps k (omega (arith, within, kept_length)) ∙ (grows_push a kept Fail is).keeps k within);
   }
 

@@ -17,7 +17,8 @@ IsNotAll at = at ≡ Some AcceptAll → ⊥
 abbrev IsNoRead : Option State → Type 0
 IsNoRead at = (ranges : List (ℕ × ℕ)) (next : ℕ) → at ≡ Some (Read ranges next) → ⊥
 
-unread : (From : ℕ → List ℕ → Type 0) (at : Option State) (code : ℕ) (word : List ℕ) → IsNotAll at → IsNoRead at → IsNoSplit at → GoesOn From at (code ∷ word) → ⊥
+unread : (From : ℕ → List ℕ → Type 0) (at : Option State) (code : ℕ) (word : List ℕ) → IsNotAll at → IsNoRead at
+    → IsNoSplit at → GoesOn From at (code ∷ word) → ⊥
 unread From None code word not_all no_read no_split reads = reads
 unread From (Some Accept) code word not_all no_read no_split reads = cc
 unread From (Some AcceptAll) code word not_all no_read no_split reads = not_all refl
@@ -26,7 +27,8 @@ unread From (Some (Read ranges next)) code word not_all no_read no_split reads =
 unread From (Some (Split one other)) code word not_all no_read no_split reads = no_split one other refl
 
 alike : (From : ℕ → List ℕ → Type 0) (at : Option State) (code other : ℕ) (word : List ℕ)
-    → ((ranges : List (ℕ × ℕ)) (next : ℕ) → at ≡ Some (Read ranges next) → in_ranges ranges other ≡ in_ranges ranges code) → IsNoSplit at
+    → ((ranges : List (ℕ × ℕ)) (next : ℕ) → at ≡ Some (Read ranges next)
+    → in_ranges ranges other ≡ in_ranges ranges code) → IsNoSplit at
     → GoesOn From at (code ∷ word) → GoesOn From at (other ∷ word)
 alike From None code other word same no_split reads = reads
 alike From (Some Accept) code other word same no_split reads = cc
@@ -37,67 +39,90 @@ alike From (Some (Split one two)) code other word same no_split reads = absurd (
 
 module _ (nfa : List State) where
   module _ (number code : ℕ) (word : List ℕ) where
-    pub none_read : IsNotAll (slice_get nfa number) → IsNoRead (slice_get nfa number) → IsNoSplit (slice_get nfa number) → NfaAccepts nfa number (code ∷ word) → ⊥
+    pub none_read : IsNotAll (slice_get nfa number) → IsNoRead (slice_get nfa number) → IsNoSplit (slice_get nfa number)
+        → NfaAccepts nfa number (code ∷ word) → ⊥
     none_read not_all no_read no_split (zero, reads) = reads
-    none_read not_all no_read no_split (suc steps, reads) = unread (λ next rest. NfaAcceptsIn nfa steps next rest) (slice_get nfa number) code word not_all no_read no_split reads
+    none_read not_all no_read no_split (suc steps, reads) =
+        unread (λ next rest. NfaAcceptsIn nfa steps next rest) (slice_get nfa number) code word not_all no_read no_split
+        reads
 
     module _ (ranges : List (ℕ × ℕ)) (next : ℕ) (at : slice_get nfa number ≡ Some (Read ranges next)) where
       pub read_on : NfaAccepts nfa number (code ∷ word) → (in_ranges ranges code ≡ true) × NfaAccepts nfa next word
       read_on (zero, reads) = absurd reads
-      read_on (suc steps, reads) = let (listed, on) = does steps (subst (λ o. GoesOn (λ n r. NfaAcceptsIn nfa steps n r) o (code ∷ word)) at reads) in (listed, (steps, on))
+      read_on (suc steps, reads) = let (listed, on) =
+          does steps (subst (λ o. GoesOn (λ n r. NfaAcceptsIn nfa steps n r) o (code ∷ word)) at reads) in (
+            listed,
+            (steps, on),
+          )
         where
-          does : (steps : ℕ) → GoesOn (λ n r. NfaAcceptsIn nfa steps n r) (Some (Read ranges next)) (code ∷ word) → (in_ranges ranges code ≡ true) × NfaAcceptsIn nfa steps next word
+          does : (steps : ℕ) → GoesOn (λ n r. NfaAcceptsIn nfa steps n r) (Some (Read ranges next)) (code ∷ word)
+              → (in_ranges ranges code ≡ true) × NfaAcceptsIn nfa steps next word
           does steps h = h
 
       pub read_here : in_ranges ranges code ≡ true → NfaAccepts nfa next word → NfaAccepts nfa number (code ∷ word)
-      read_here listed (steps, reads) = (suc steps, subst (λ o. GoesOn (λ n r. NfaAcceptsIn nfa steps n r) o (code ∷ word)) (sym at) (listed, reads))
+      read_here listed (steps, reads) =
+          (suc steps, subst (λ o. GoesOn (λ n r. NfaAcceptsIn nfa steps n r) o (code ∷ word)) (sym at) (listed, reads))
 
   -- what is noted for one state
   abbrev pub Notes : ℕ → ℕ → List ℕ → List ℕ → Type 0
-  Notes number code seen new = (word : List ℕ) → SomeAccepts nfa new word ↔ (SomeAccepts nfa seen word ⊎ NfaAccepts nfa number (code ∷ word))
+  Notes number code seen new = (word : List ℕ) → SomeAccepts nfa new word
+      ↔ (SomeAccepts nfa seen word ⊎ NfaAccepts nfa number (code ∷ word))
 
-  pub notes_none : (number code : ℕ) (seen : List ℕ) → ((word : List ℕ) → NfaAccepts nfa number (code ∷ word) → ⊥) → Notes number code seen seen
+  pub notes_none : (number code : ℕ) (seen : List ℕ) → ((word : List ℕ) → NfaAccepts nfa number (code ∷ word) → ⊥)
+      → Notes number code seen seen
   notes_none number code seen none word = ((λ h. inl h), from)
     where
       from : SomeAccepts nfa seen word ⊎ NfaAccepts nfa number (code ∷ word) → SomeAccepts nfa seen word
       from (inl h) = h
       from (inr h) = absurd (none word h)
 
-  pub notes_unlisted : (number code : ℕ) (seen : List ℕ) (ranges : List (ℕ × ℕ)) (next : ℕ) → slice_get nfa number ≡ Some (Read ranges next) → in_ranges ranges code ≡ false
+  pub notes_unlisted : (number code : ℕ) (seen : List ℕ) (ranges : List (ℕ × ℕ)) (next : ℕ)
+      → slice_get nfa number ≡ Some (Read ranges next) → in_ranges ranges code ≡ false
       → Notes number code seen seen
-  notes_unlisted number code seen ranges next at unlisted = notes_none number code seen (λ word reads. let e = (read_on number code word ranges next at reads).0 in cc)
+  notes_unlisted number code seen ranges next at unlisted =
+      notes_none number code seen (λ word reads. let e = (read_on number code word ranges next at reads).0 in cc)
 
-  module _ (number code : ℕ) (seen new : List ℕ) (ranges : List (ℕ × ℕ)) (next : ℕ) (at : slice_get nfa number ≡ Some (Read ranges next)) (listed : in_ranges ranges code ≡ true) where
+  module _ (number code : ℕ) (seen new : List ℕ) (ranges : List (ℕ × ℕ)) (next : ℕ)
+      (at : slice_get nfa number ≡ Some (Read ranges next)) (listed : in_ranges ranges code ≡ true) where
     notes_added : Contains new next → (new ≡ seen) ⊎ (new ≡ seen ++ next ∷ []) → Notes number code seen new
-    notes_added has grows word = let added = reads_added nfa seen new next word grows has in ((λ h. to (added.0 h)), (λ h. added.1 (from h)))
+    notes_added has grows word = let added =
+        reads_added nfa seen new next word grows has in ((λ h. to (added.0 h)), (λ h. added.1 (from h)))
       where
-        to : SomeAccepts nfa seen word ⊎ NfaAccepts nfa next word → SomeAccepts nfa seen word ⊎ NfaAccepts nfa number (code ∷ word)
+        to : SomeAccepts nfa seen word ⊎ NfaAccepts nfa next word → SomeAccepts nfa seen word
+            ⊎ NfaAccepts nfa number (code ∷ word)
         to (inl h) = inl h
         to (inr h) = inr (read_here number code word ranges next at listed h)
 
-        from : SomeAccepts nfa seen word ⊎ NfaAccepts nfa number (code ∷ word) → SomeAccepts nfa seen word ⊎ NfaAccepts nfa next word
+        from : SomeAccepts nfa seen word ⊎ NfaAccepts nfa number (code ∷ word) → SomeAccepts nfa seen word
+            ⊎ NfaAccepts nfa next word
         from (inl h) = inl h
         from (inr h) = inr (read_on number code word ranges next at h).1
 
-    pub notes_next : {E : Type 0} (r : Result (Unit {0}) E) → OnOk r (Contains new next) → OnOk r ((new ≡ seen) ⊎ (new ≡ seen ++ next ∷ [])) → OnOk r (Notes number code seen new)
+    pub notes_next : {E : Type 0} (r : Result (Unit {0}) E) → OnOk r (Contains new next)
+        → OnOk r ((new ≡ seen) ⊎ (new ≡ seen ++ next ∷ [])) → OnOk r (Notes number code seen new)
     notes_next (Err y) has grows = tt
     notes_next (Ok x) has grows = notes_added has grows
 
   -- a state that accepts every word
-  pub notes_all : {E : Type 0} (number code : ℕ) (seen new : List ℕ) (r : Result (Unit {0}) E) → slice_get nfa number ≡ Some AcceptAll
-      → OnOk r (Contains new number) → OnOk r ((new ≡ seen) ⊎ (new ≡ seen ++ number ∷ [])) → OnOk r (Notes number code seen new)
+  pub notes_all : {E : Type 0} (number code : ℕ) (seen new : List ℕ) (r : Result (Unit {0}) E)
+      → slice_get nfa number ≡ Some AcceptAll
+      → OnOk r (Contains new number) → OnOk r ((new ≡ seen) ⊎ (new ≡ seen ++ number ∷ []))
+      → OnOk r (Notes number code seen new)
   notes_all number code seen new (Err y) at has grows = tt
-  notes_all number code seen new (Ok x) at has grows = λ word. let added = reads_added nfa seen new number word grows has in
+  notes_all number code seen new (Ok x) at has grows = λ word. let added =
+      reads_added nfa seen new number word grows has in
       ((λ h. to word (added.0 h)), (λ h. added.1 (from word h)))
     where
       every : (word : List ℕ) → NfaAccepts nfa number word
       every word = (1, subst (λ o. GoesOn (λ next rest. NfaAcceptsIn nfa 0 next rest) o word) (sym at) tt)
 
-      to : (word : List ℕ) → SomeAccepts nfa seen word ⊎ NfaAccepts nfa number word → SomeAccepts nfa seen word ⊎ NfaAccepts nfa number (code ∷ word)
+      to : (word : List ℕ) → SomeAccepts nfa seen word ⊎ NfaAccepts nfa number word → SomeAccepts nfa seen word
+          ⊎ NfaAccepts nfa number (code ∷ word)
       to word (inl h) = inl h
       to word (inr h) = inr (every (code ∷ word))
 
-      from : (word : List ℕ) → SomeAccepts nfa seen word ⊎ NfaAccepts nfa number (code ∷ word) → SomeAccepts nfa seen word ⊎ NfaAccepts nfa number word
+      from : (word : List ℕ) → SomeAccepts nfa seen word ⊎ NfaAccepts nfa number (code ∷ word)
+          → SomeAccepts nfa seen word ⊎ NfaAccepts nfa number word
       from word (inl h) = inl h
       from word (inr h) = inr (every word)
 
@@ -112,7 +137,8 @@ module _ (nfa : List State) where
       none [] = refl
       none (x ∷ l) = refl
 
-  pub leads_more : (set seen new : List ℕ) (at d code : ℕ) → at < length set → LeadsTo nfa (take at set) code seen → Notes (get_or set at d) code seen new
+  pub leads_more : (set seen new : List ℕ) (at d code : ℕ) → at < length set → LeadsTo nfa (take at set) code seen
+      → Notes (get_or set at d) code seen new
       → LeadsTo nfa (take (at + 1) set) code new
   leads_more set seen new at d code within leads notes word =
       let next = reads_next nfa set at d (code ∷ word) within in (
@@ -120,27 +146,37 @@ module _ (nfa : List State) where
         (λ h. (notes word).1 (from (next.0 h))),
       )
     where
-      to : (SomeAccepts nfa new word → SomeAccepts nfa seen word ⊎ NfaAccepts nfa (get_or set at d) (code ∷ word)) → SomeAccepts nfa new word
+      to : (SomeAccepts nfa new word → SomeAccepts nfa seen word ⊎ NfaAccepts nfa (get_or set at d) (code ∷ word))
+          → SomeAccepts nfa new word
           → SomeAccepts nfa (take at set) (code ∷ word) ⊎ NfaAccepts nfa (get_or set at d) (code ∷ word)
       to f h = elim (f h) [ inl old ↦ inl ((leads word).0 old) | inr new ↦ inr new ]
 
-      from : SomeAccepts nfa (take at set) (code ∷ word) ⊎ NfaAccepts nfa (get_or set at d) (code ∷ word) → SomeAccepts nfa seen word ⊎ NfaAccepts nfa (get_or set at d) (code ∷ word)
+      from : SomeAccepts nfa (take at set) (code ∷ word) ⊎ NfaAccepts nfa (get_or set at d) (code ∷ word)
+          → SomeAccepts nfa seen word ⊎ NfaAccepts nfa (get_or set at d) (code ∷ word)
       from (inl h) = inl ((leads word).1 h)
       from (inr h) = inr h
 
   -- codes that are read alike lead to the same set
-  pub leads_alike : (set next : List ℕ) (code other : ℕ) → HasNoSplit nfa set → ((number : ℕ) → Contains set number → IsReadAlike nfa number code other)
+  pub leads_alike : (set next : List ℕ) (code other : ℕ) → HasNoSplit nfa set
+      → ((number : ℕ) → Contains set number → IsReadAlike nfa number code other)
       → LeadsTo nfa set code next → LeadsTo nfa set other next
   leads_alike set next code other no_split same leads word = (
     (λ h. let (n, has, reads) = (leads word).0 h in (n, has, on n code other has (same n has) reads)),
-    (λ h. let (n, has, reads) = h in (leads word).1 (n, has, on n other code has (λ ranges to at. sym (same n has ranges to at)) reads)),
+    (λ h. let (n, has, reads) =
+        h in (leads word).1 (n, has, on n other code has (λ ranges to at. sym (same n has ranges to at)) reads)),
   )
     where
-      on : (n a b : ℕ) → Contains set n → IsReadAlike nfa n a b → NfaAccepts nfa n (a ∷ word) → NfaAccepts nfa n (b ∷ word)
+      on : (n a b : ℕ) → Contains set n → IsReadAlike nfa n a b → NfaAccepts nfa n (a ∷ word)
+          → NfaAccepts nfa n (b ∷ word)
       on n a b has like (zero, reads) = absurd reads
-      on n a b has like (suc steps, reads) = (suc steps, alike (λ next rest. NfaAcceptsIn nfa steps next rest) (slice_get nfa n) a b word like (λ one two at. no_split n one two has at) reads)
+      on n a b has like (suc steps, reads) = (
+        suc steps,
+        alike (λ next rest. NfaAcceptsIn nfa steps next rest) (slice_get nfa n) a b word like
+            (λ one two at. no_split n one two has at) reads,
+      )
 
-  pub leads_all : {E : Type 0} (set seen found : List ℕ) (at code : ℕ) (r : Result (Unit {0}) E) → length set ≤ at → LeadsTo nfa (take at set) code seen
+  pub leads_all : {E : Type 0} (set seen found : List ℕ) (at code : ℕ) (r : Result (Unit {0}) E) → length set ≤ at
+      → LeadsTo nfa (take at set) code seen
       → OnOk r (AcceptTheSame nfa seen found) → OnOk r (LeadsTo nfa set code found)
   leads_all set seen found at code (Err y) all leads same = tt
   leads_all set seen found at code (Ok x) all leads same = λ word.

@@ -17,7 +17,8 @@ empty_here From (Some Fail) is = absurd is
 empty_here From (Some (Read ranges next)) is = absurd is
 empty_here From (Some (Split one other)) is = absurd is
 
-here_empty : (From : ℕ → List ℕ → Type 0) (at : Option State) → ((one other : ℕ) → at ≡ Some (Split one other) → ⊥) → GoesOn From at [] → AcceptsEmpty at
+here_empty : (From : ℕ → List ℕ → Type 0) (at : Option State) → ((one other : ℕ) → at ≡ Some (Split one other) → ⊥)
+    → GoesOn From at [] → AcceptsEmpty at
 here_empty From None no_split goes = absurd goes
 here_empty From (Some Accept) no_split goes = tt
 here_empty From (Some AcceptAll) no_split goes = tt
@@ -27,26 +28,38 @@ here_empty From (Some (Split one other)) no_split goes = absurd (no_split one ot
 
 module _ (nfa : List State) (set : List ℕ) (no_split : HasNoSplit nfa set) where
   to_empty : Any (λ number. AcceptsEmpty (slice_get nfa number)) set → SomeAccepts nfa set []
-  to_empty (k, n, within, is, at) = (n, (k, within, is), (1, empty_here (λ next rest. NfaAcceptsIn nfa 0 next rest) (slice_get nfa n) at))
+  to_empty (k, n, within, is, at) =
+      (n, (k, within, is), (1, empty_here (λ next rest. NfaAcceptsIn nfa 0 next rest) (slice_get nfa n) at))
 
   from_empty : SomeAccepts nfa set [] → Any (λ number. AcceptsEmpty (slice_get nfa number)) set
   from_empty (n, has, (zero, accepts)) = absurd accepts
-  from_empty (n, (k, within, is), (suc steps, accepts)) =
-      (k, n, within, is, here_empty (λ next rest. NfaAcceptsIn nfa steps next rest) (slice_get nfa n) (λ one other at. no_split n one other (k, within, is) at) accepts)
+  from_empty (n, (k, within, is), (suc steps, accepts)) = (
+    k,
+    n,
+    within,
+    is,
+    here_empty (λ next rest. NfaAcceptsIn nfa steps next rest) (slice_get nfa n)
+        (λ one other at. no_split n one other (k, within, is) at) accepts,
+  )
 
-  pub empty_accepted : (answer : Bool) → (answer ≡ true) ↔ Any (λ number. AcceptsEmpty (slice_get nfa number)) set → (answer ≡ true) ↔ SomeAccepts nfa set []
+  pub empty_accepted : (answer : Bool) → (answer ≡ true) ↔ Any (λ number. AcceptsEmpty (slice_get nfa number)) set
+      → (answer ≡ true) ↔ SomeAccepts nfa set []
   empty_accepted answer is = ((λ e. to_empty (is.0 e)), (λ h. is.1 (from_empty h)))
 
   -- one step
   pub leads_on : (next : List ℕ) (first last : ℕ) → first ≤ last → LeadsTo nfa set first next
       → ((other : ℕ) → first ≤ other → other ≤ last → (n : ℕ) → Contains set n → IsReadAlike nfa n first other)
-      → (code : ℕ) → first ≤ code → code ≤ last → (word : List ℕ) → SomeAccepts nfa next word ↔ SomeAccepts nfa set (code ∷ word)
-  leads_on next first last reached leads alike code low high word = leads_alike nfa set next first code no_split (alike code low high) leads word
+      → (code : ℕ) → first ≤ code → code ≤ last → (word : List ℕ) → SomeAccepts nfa next word
+      ↔ SomeAccepts nfa set (code ∷ word)
+  leads_on next first last reached leads alike code low high word =
+      leads_alike nfa set next first code no_split (alike code low high) leads word
 
 -- what one state accepts
-pub one_accepts : (nfa : List State) (start : ℕ) (none seen set : List ℕ) → none ≡ [] → (seen ≡ none) ⊎ (seen ≡ none ++ start ∷ []) → Contains seen start → AcceptTheSame nfa seen set
+pub one_accepts : (nfa : List State) (start : ℕ) (none seen set : List ℕ) → none ≡ [] → (seen ≡ none)
+    ⊎ (seen ≡ none ++ start ∷ []) → Contains seen start → AcceptTheSame nfa seen set
     → (word : List ℕ) → SomeAccepts nfa set word ↔ NfaAccepts nfa start word
-one_accepts nfa start none seen set empty added has same word = ((λ h. from ((same word).1 h)), (λ h. (same word).0 (start, has, h)))
+one_accepts nfa start none seen set empty added has same word =
+    ((λ h. from ((same word).1 h)), (λ h. (same word).0 (start, has, h)))
   where
     only : (n : ℕ) → (seen ≡ none) ⊎ (seen ≡ none ++ start ∷ []) → Contains seen n → n ≡ start
     only n (inl is) (k, within, at) = absurd (omega (arith, within, ap length is, ap length empty))
@@ -60,7 +73,8 @@ one_accepts nfa start none seen set empty added has same word = ((λ h. from ((s
     from (n, has_n, accepts) = subst (λ m. NfaAccepts nfa m word) (only n added has_n) accepts
 
 -- what is accepted from the first set
-pub accepts_start : {E : Type 0} (r : Result Automaton E) (nfa : List State) (start : ℕ) (set : List ℕ) → ((word : List ℕ) → SomeAccepts nfa set word ↔ NfaAccepts nfa start word)
+pub accepts_start : {E : Type 0} (r : Result Automaton E) (nfa : List State) (start : ℕ) (set : List ℕ)
+    → ((word : List ℕ) → SomeAccepts nfa set word ↔ NfaAccepts nfa start word)
     → IfOk r (λ dfa. (word : List ℕ) → All IsCharacter word → Accepts dfa word ↔ SomeAccepts nfa set word)
     → IfOk r (λ dfa. (word : List ℕ) → All IsCharacter word → Accepts dfa word ↔ NfaAccepts nfa start word)
 accepts_start (Err e) nfa start set same explored = tt

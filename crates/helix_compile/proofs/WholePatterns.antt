@@ -11,12 +11,18 @@ use Rattle.helix_compile.specs.declared.nfa.State.{State}
 use Rattle.helix_compile.specs.Answers.{Answers}
 use Rattle.helix_compile.specs.Inner.Nfa.{GoesOn, NfaAcceptsIn, NfaAccepts, LeadsThrough, Grows, Builds}
 use Rattle.helix_compile.specs.Inner.Repeats.{AnyNumber}
-use Rattle.helix_compile.specs.Inner.Patterns.{Before, MatchEnds, After, is_open, end_state, any_character}
+use Rattle.helix_compile.specs.Inner.Patterns.{Before, MatchEnds, is_open, end_state, any_character}
 use Rattle.helix_compile.proofs.Building.{builds_nothing, builds_both}
 use Rattle.helix_compile.proofs.Arms.{ok_map, ok_with}
 
+-- after a match: anything where that may follow, and else nothing
+abbrev pub After : Bool → List ℕ → Type 0
+After true word = Unit {0}
+After false word = word ≡ []
+
 -- what the last state accepts
-end_goes : (free : Bool) (From : ℕ → List ℕ → Type 0) (rest : List ℕ) → GoesOn From (Some (end_state free)) rest ↔ After free rest
+end_goes : (free : Bool) (From : ℕ → List ℕ → Type 0) (rest : List ℕ) → GoesOn From (Some (end_state free)) rest
+    ↔ After free rest
 end_goes true From rest = ((λ h. tt), (λ h. tt))
 end_goes false From rest = ((λ h. h), (λ h. h))
 
@@ -24,25 +30,33 @@ end_goes false From rest = ((λ h. h), (λ h. h))
 abbrev pub Followed : (List ℕ → Type 0) → Bool → List ℕ → Type 0
 Followed L free word = (front : List ℕ) × (rest : List ℕ) × (word ≡ front ++ rest) × L front × After free rest
 
-module _ (nfa : List State) (first end : ℕ) (L : List ℕ → Type 0) (leads : LeadsThrough nfa first L end) (free : Bool) (at : slice_get nfa end ≡ Some (end_state free)) where
+module _ (nfa : List State) (first end : ℕ) (L : List ℕ → Type 0) (leads : LeadsThrough nfa first L end) (free : Bool)
+    (at : slice_get nfa end ≡ Some (end_state free)) where
   ends_there : (steps : ℕ) (rest : List ℕ) → NfaAcceptsIn nfa steps end rest → After free rest
   ends_there zero rest accepts = absurd accepts
   ends_there (suc steps) rest accepts =
-      (end_goes free (λ n r. NfaAcceptsIn nfa steps n r) rest).0 (subst (λ o. GoesOn (λ n r. NfaAcceptsIn nfa steps n r) o rest) at accepts)
+      (end_goes free (λ n r. NfaAcceptsIn nfa steps n r) rest).0
+      (subst (λ o. GoesOn (λ n r. NfaAcceptsIn nfa steps n r) o rest) at accepts)
 
   pub accepts_whole : (word : List ℕ) → NfaAccepts nfa first word ↔ Followed L free word
   accepts_whole word = (
-    (λ (steps, accepts). let (front, rest, fewer, is, has, few, on) = leads.splits steps word accepts in (front, rest, is, has, ends_there fewer rest on)),
-    (λ (front, rest, is, has, after). subst (λ w. NfaAccepts nfa first w) (sym is) (leads.joins front rest has
-        (1, subst (λ o. GoesOn (λ n r. NfaAcceptsIn nfa 0 n r) o rest) (sym at) ((end_goes free (λ n r. NfaAcceptsIn nfa 0 n r) rest).1 after)))),
+    (λ (steps, accepts). let (front, rest, fewer, is, has, few, on) =
+        leads.splits steps word accepts in (front, rest, is, has, ends_there fewer rest on)),
+    (λ (front, rest, is, has, after). subst (λ w. NfaAccepts nfa first w) (sym is) (leads.joins front rest has (
+      1,
+      subst (λ o. GoesOn (λ n r. NfaAcceptsIn nfa 0 n r) o rest) (sym at)
+          ((end_goes free (λ n r. NfaAcceptsIn nfa 0 n r) rest).1 after),
+    ))),
   )
 
 -- characters are between the first and the last
 within_range : (low high code : ℕ) → (nat_le low code && nat_le code high) ≡ true → (low ≤ code) × (code ≤ high)
-within_range low high code e = let parts = and_parts (nat_le low code) (nat_le code high) e in (leb-true low code parts.0, leb-true code high parts.1)
+within_range low high code e = let parts =
+    and_parts (nat_le low code) (nat_le code high) e in (leb-true low code parts.0, leb-true code high parts.1)
 
 one_of_any : (code : ℕ) → 0x20 ≤ code → code ≤ 0x10FFFF → InRanges any_character code
-one_of_any code low high = first (nat_le 0x20 code) (nat_le code 0x10FFFF) (le-leb 0x20 code low) (le-leb code 0x10FFFF high)
+one_of_any code low high =
+    first (nat_le 0x20 code) (nat_le code 0x10FFFF) (le-leb 0x20 code low) (le-leb code 0x10FFFF high)
   where
     first : (a b : Bool) → a ≡ true → b ≡ true → ((a && b) || false) ≡ true
     first true true e f = refl
@@ -55,7 +69,8 @@ is_any code character = elim (or_cases _ _ character) [
   | inr e ↦ elim (or_cases _ _ e) [
     | inl f ↦ (let w = within_range 0xA0 0xD7FF code f in one_of_any code (omega (arith, w.0)) (omega (arith, w.1)))
     | inr f ↦ elim (or_cases _ _ f) [
-      | inl g ↦ (let w = within_range 0xE000 0x10FFFF code g in one_of_any code (omega (arith, w.0)) (omega (arith, w.1)))
+      | inl g ↦ (let w =
+          within_range 0xE000 0x10FFFF code g in one_of_any code (omega (arith, w.0)) (omega (arith, w.1)))
       | inr g ↦ cc
     ]
   ]
@@ -83,12 +98,15 @@ after_bound true word empty e = empty
 after_bound false word any e = cc
 
 all_left : (P : ℕ → Type 0) (xs ys : List ℕ) → All P (xs ++ ys) → All P xs
-all_left P xs ys all k d within = subst P (get_or_append_left xs ys d k within) (all k d (omega (arith, within, length-append xs ys)))
+all_left P xs ys all k d within =
+    subst P (get_or_append_left xs ys d k within) (all k d (omega (arith, within, length-append xs ys)))
 
 -- a word over the alphabet contains a match where it is a match with any characters before it and anything after it
-pub words_answer : (regex : Regex) (containing : Bool) (word : List ℕ) → All IsCharacter word → Followed (MatchEnds regex containing) (is_open regex containing) word ↔ Answers regex containing word
+pub words_answer : (regex : Regex) (containing : Bool) (word : List ℕ) → All IsCharacter word
+    → Followed (MatchEnds regex containing) (is_open regex containing) word ↔ Answers regex containing word
 words_answer regex false word all = (
-  (λ (front, rest, is, matches, none). subst (Matches regex.expr) (sym (is ∙ (ap (λ l. front ++ l) none ∙ append-nil front))) matches),
+  (λ (front, rest, is, matches, none). subst (Matches regex.expr)
+      (sym (is ∙ (ap (λ l. front ++ l) none ∙ append-nil front))) matches),
   (λ matches. (word, [], sym (append-nil word), matches, refl)),
 )
 words_answer regex true word all = (
@@ -106,37 +124,60 @@ words_answer regex true word all = (
         found.before ++ found.middle,
         found.after,
         found.split ∙ sym (append_assoc found.before found.middle found.after),
-        (found.before, found.middle, refl, before regex.at_start found.before (all_left IsCharacter found.before (found.middle ++ found.after) characters) found.from_start, found.match),
+        (
+          found.before,
+          found.middle,
+          refl,
+          before regex.at_start found.before
+              (all_left IsCharacter found.before (found.middle ++ found.after) characters) found.from_start,
+          found.match,
+        ),
         after regex.at_end found.after found.to_end,
       )),
 )
 
 -- the whole
-pub whole_pattern : (start nfa : List State) (first end : ℕ) (regex : Regex) (containing : Bool) → start ≡ [] ++ end_state (is_open regex containing) ∷ [] → end ≡ 0 → Grows start nfa
-    → Builds start nfa first (MatchEnds regex containing) end → (word : List ℕ) → All IsCharacter word → NfaAccepts nfa first word ↔ Answers regex containing word
+pub whole_pattern : (start nfa : List State) (first end : ℕ) (regex : Regex) (containing : Bool) → start ≡ []
+    ++ end_state (is_open regex containing) ∷ [] → end ≡ 0 → Grows start nfa
+    → Builds start nfa first (MatchEnds regex containing) end → (word : List ℕ) → All IsCharacter word
+    → NfaAccepts nfa first word ↔ Answers regex containing word
 whole_pattern start nfa first end regex containing one at grows builds word all =
     let there : slice_get nfa end ≡ Some (end_state (is_open regex containing)) =
     ap (slice_get nfa) at ∙ (grows.keeps 0 (omega (arith, ap length one)) ∙ ap (λ l. slice_get l 0) one) in
-    let accepts = accepts_whole nfa first end (MatchEnds regex containing) (builds nfa (λ k from within. refl)) (is_open regex containing) there word in
+    let accepts = accepts_whole nfa first end (MatchEnds regex containing) (builds nfa (λ k from within. refl))
+    (is_open regex containing) there word in
     let answers = words_answer regex containing word all in
     ((λ r. answers.0 (accepts.0 r)), (λ a. accepts.1 (answers.1 a)))
 
-pub before_bound_builds : (a : List State) (bound : Bool) (next : ℕ) → bound ≡ true → Builds a a next (Before bound) next
+pub before_bound_builds : (a : List State) (bound : Bool) (next : ℕ) → bound ≡ true
+    → Builds a a next (Before bound) next
 before_bound_builds a bound next is = subst (λ b. Builds a a next (Before b) next) (sym is) (builds_nothing a next)
 
-pub before_free_builds : {Y : Type 0} (a b : List State) (bound : Bool) (next : ℕ) (ranges : List (ℕ × ℕ)) (r : Result ℕ Y) → bound ≡ false → ranges ≡ any_character
-    → IfOk r (λ first. Builds a b first (AnyNumber (Matches (Chars ranges))) next) → IfOk r (λ first. Builds a b first (Before bound) next)
-before_free_builds a b bound next ranges r is same builds = subst (λ f. IfOk r (λ first. Builds a b first (Before f) next)) (sym is)
-    (ok_map (λ first. Builds a b first (AnyNumber (Matches (Chars ranges))) next) (λ first. Builds a b first (Before false) next) r
+pub before_free_builds : {Y : Type 0} (a b : List State) (bound : Bool) (next : ℕ) (ranges : List (ℕ × ℕ))
+    (r : Result ℕ Y) → bound ≡ false → ranges ≡ any_character
+    → IfOk r (λ first. Builds a b first (AnyNumber (Matches (Chars ranges))) next)
+    → IfOk r (λ first. Builds a b first (Before bound) next)
+before_free_builds a b bound next ranges r is same builds =
+    subst (λ f. IfOk r (λ first. Builds a b first (Before f) next)) (sym is)
+    (ok_map (λ first. Builds a b first (AnyNumber (Matches (Chars ranges))) next)
+    (λ first. Builds a b first (Before false) next) r
     (λ first h. subst (λ l. Builds a b first (AnyNumber (IsOneOf l)) next) same h) builds)
 
-pub match_alone : {Y : Type 0} (a b : List State) (regex : Regex) (containing : Bool) (next : ℕ) (r : Result ℕ Y) → containing ≡ false
-    → IfOk r (λ first. Builds a b first (Matches regex.expr) next) → IfOk r (λ first. Builds a b first (MatchEnds regex containing) next)
-match_alone a b regex containing next r is builds = subst (λ c. IfOk r (λ first. Builds a b first (MatchEnds regex c) next)) (sym is) builds
+pub match_alone : {Y : Type 0} (a b : List State) (regex : Regex) (containing : Bool) (next : ℕ) (r : Result ℕ Y)
+    → containing ≡ false
+    → IfOk r (λ first. Builds a b first (Matches regex.expr) next)
+    → IfOk r (λ first. Builds a b first (MatchEnds regex containing) next)
+match_alone a b regex containing next r is builds =
+    subst (λ c. IfOk r (λ first. Builds a b first (MatchEnds regex c) next)) (sym is) builds
 
-pub match_within : {Y : Type 0} (a c d : List State) (regex : Regex) (containing : Bool) (middle next : ℕ) (r : Result ℕ Y) → containing ≡ true
-    → Grows a c → Builds a c middle (Matches regex.expr) next → OnOk r (Grows c d) → IfOk r (λ first. Builds c d first (Before regex.at_start) middle)
+pub match_within : {Y : Type 0} (a c d : List State) (regex : Regex) (containing : Bool) (middle next : ℕ)
+    (r : Result ℕ Y) → containing ≡ true
+    → Grows a c → Builds a c middle (Matches regex.expr) next → OnOk r (Grows c d)
+    → IfOk r (λ first. Builds c d first (Before regex.at_start) middle)
     → IfOk r (λ first. Builds a d first (MatchEnds regex containing) next)
-match_within a c d regex containing middle next r is grows match last start = subst (λ f. IfOk r (λ first. Builds a d first (MatchEnds regex f) next)) (sym is)
-    (ok_with (Grows c d) (λ first. Builds c d first (Before regex.at_start) middle) (λ first. Builds a d first (MatchEnds regex true) next) r
-    (λ g first h. builds_both a c d first middle next (Before regex.at_start) (Matches regex.expr) grows g match h) last start)
+match_within a c d regex containing middle next r is grows match last start =
+    subst (λ f. IfOk r (λ first. Builds a d first (MatchEnds regex f) next)) (sym is)
+    (ok_with (Grows c d) (λ first. Builds c d first (Before regex.at_start) middle)
+    (λ first. Builds a d first (MatchEnds regex true) next) r
+    (λ g first h. builds_both a c d first middle next (Before regex.at_start) (Matches regex.expr) grows g match h) last
+    start)

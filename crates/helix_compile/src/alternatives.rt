@@ -34,7 +34,8 @@ pub fn append_ranges(ranges: &mut Ranges, more: &[(u32, u32)]) -> Result<(), Mem
 /// Builds the alternatives that are one character before the others.
 pub fn build_chars(nfa: &mut Nfa, chars: Ranges, others: u32, next: u32) -> Result<u32, Memory>
     ensures grows { OnOk result (Grows nfa.old nfa.new) }
-    ensures leads { IfOk result (λ first. (start : List State) (done : List Expr) → AreAlternatives start nfa.old others chars done next
+    ensures leads { IfOk result (λ first. (start : List State) (done : List Expr)
+        → AreAlternatives start nfa.old others chars done next
         → Builds start nfa.new first (MatchSome done) next) }
 {
     if chars.as_slice().is_empty() {

@@ -20,7 +20,8 @@ use std::alloc::Global;
 /// contained and no anchor ends it, every match leads to one accepting state that all characters lead back to. A state
 /// has up to twice as many arcs as the ranges of its positions, and one more.
 pub fn dfa_of(alloc: Global, regex: &Regex, containing: bool) -> Result<Dfa, Memory>
-    ensures { IfOk result (λ dfa. (word : List ℕ) → All IsCharacter word → Accepts dfa word ↔ Answers regex.now containing word) }
+    ensures { IfOk result (λ dfa. (word : List ℕ) → All IsCharacter word → Accepts dfa word
+        ↔ Answers regex.now containing word) }
 {
     let (nfa, first) = nfa_of(alloc, regex, containing)?;
     determinize(alloc, nfa.as_slice(), first)

@@ -59,7 +59,8 @@ impl<'a> Machine for Subsets<'a> {
 
 /// The set of states that one state stands for.
 fn start_set(alloc: Global, nfa: &[State], start: u32, seen: &mut Seen) -> Result<Vec<u32>, Memory>
-    ensures same { IfOk result (λ set. (word : List ℕ) → SomeAccepts nfa.now set.items word ↔ NfaAccepts nfa.now start word) }
+    ensures same { IfOk result (λ set. (word : List ℕ) → SomeAccepts nfa.now set.items word
+        ↔ NfaAccepts nfa.now start word) }
     ensures no_split { IfOk result (λ set. HasNoSplit nfa.now set.items) }
 {
     let mut set = Vec::new(alloc);
@@ -69,11 +70,13 @@ fn start_set(alloc: Global, nfa: &[State], start: u32, seen: &mut Seen) -> Resul
     Ok(set)
 }
 
-/// The deterministic automaton that accepts what a nondeterministic one accepts from a state. Its states are the sets of
+/// The deterministic automaton that accepts what a nondeterministic one accepts from a state. Its states are the sets
+/// of
 /// states that can be reached together: up to 2^n for n states, though for most patterns about as many as there are
 /// states. Out of memory is answered too where there would be 2^32 - 1 or more.
 pub fn determinize(alloc: Global, nfa: &[State], start: u32) -> Result<Dfa, Memory>
-    ensures { IfOk result (λ dfa. (word : List ℕ) → All IsCharacter word → Accepts dfa word ↔ NfaAccepts nfa.now start word) }
+    ensures { IfOk result (λ dfa. (word : List ℕ) → All IsCharacter word → Accepts dfa word
+        ↔ NfaAccepts nfa.now start word) }
 {
     let mut seen = Seen::new(alloc);
     let set = start_set(alloc, nfa, start, &mut seen)?;

@@ -10,7 +10,8 @@ use crate::nfa::State;
 /// The ranges of a state that reads a character, and the state to which they lead.
 pub fn read_at(nfa: &[State], number: u32) -> Option<(&[(u32, u32)], u32)>
     ensures some { IfSome result (λ read. slice_get nfa.now number ≡ Some (Read read.0.now read.1)) }
-    ensures none { IfNone result ((ranges : List (ℕ × ℕ)) (next : ℕ) → slice_get nfa.now number ≡ Some (Read ranges next) → ⊥) }
+    ensures none { IfNone result ((ranges : List (ℕ × ℕ)) (next : ℕ)
+        → slice_get nfa.now number ≡ Some (Read ranges next) → ⊥) }
 {
     match nfa.get(number as usize)? {
         State::Read(ranges, next) => Some((ranges.as_slice(), *next)),

@@ -17,7 +17,8 @@ use helix_base::{Memory, in_ranges};
 fn note_next(nfa: &[State], number: u32, code: u32, seen: &mut Seen) -> Result<(), Memory>
     requires { (one other : ℕ) → slice_get nfa.now number ≡ Some (Split one other) → ⊥ }
     ensures { OnOk result ((word : List ℕ)
-        → SomeAccepts nfa.now seen.new word ↔ (SomeAccepts nfa.now seen.old word ⊎ NfaAccepts nfa.now number (code ∷ word))) }
+        → SomeAccepts nfa.now seen.new word
+        ↔ (SomeAccepts nfa.now seen.old word ⊎ NfaAccepts nfa.now number (code ∷ word))) }
 {
     if accepts_all_at(nfa, number) {
         return seen.note(number);
@@ -68,7 +69,8 @@ fn range_alike_up_to(range: (u32, u32), code: u32) -> u32
 /// A code up to which the ranges hold each code as they hold this one.
 fn ranges_alike_up_to(ranges: &[(u32, u32)], code: u32) -> u32
     ensures reached { code ≤ result }
-    ensures alike { (other : ℕ) → code ≤ other → other ≤ result → in_ranges ranges.now other ≡ in_ranges ranges.now code }
+    ensures alike { (other : ℕ) → code ≤ other → other ≤ result
+        → in_ranges ranges.now other ≡ in_ranges ranges.now code }
 {
     let mut last = u32::MAX;
     for range in ranges {
@@ -91,7 +93,8 @@ fn state_alike_up_to(nfa: &[State], number: u32, code: u32) -> u32
 /// A code up to which each state of a set reads each code as it reads this one.
 pub fn alike_up_to(nfa: &[State], set: &[u32], code: u32) -> u32
     ensures reached { code ≤ result }
-    ensures alike { (other : ℕ) → code ≤ other → other ≤ result → (number : ℕ) → Contains set.now number → IsReadAlike nfa.now number code other }
+    ensures alike { (other : ℕ) → code ≤ other → other ≤ result → (number : ℕ) → Contains set.now number
+        → IsReadAlike nfa.now number code other }
 {
     let mut last = u32::MAX;
     for number in set {

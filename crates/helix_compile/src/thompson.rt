@@ -61,7 +61,8 @@ fn build_alternative(
     part: &Expr,
     ends: (u32, u32),
 ) -> Result<u32, Memory>
-    ensures { IfOk result (λ first. (start : List State) (done : List Expr) → AreAlternatives start nfa.old ends.0 chars.old done ends.1
+    ensures { IfOk result (λ first. (start : List State) (done : List Expr)
+        → AreAlternatives start nfa.old ends.0 chars.old done ends.1
         → AreAlternatives start nfa.new first chars.new (part.now ∷ done) ends.1) }
 {
     let (others, next) = ends;
@@ -104,7 +105,8 @@ fn build_repeat(
     next: u32,
 ) -> Result<u32, Memory>
     ensures grows { OnOk result (Grows nfa.old nfa.new) }
-    ensures leads { IfOk result (λ first. Builds nfa.old nfa.new first (Repeats (Matches part.now) limits.0 limits.1) next) }
+    ensures leads { IfOk result
+        (λ first. Builds nfa.old nfa.new first (Repeats (Matches part.now) limits.0 limits.1) next) }
 {
     if matches_only_empty(part) {
         return build_empty_repeat(alloc, nfa, part, limits, next);
@@ -125,7 +127,8 @@ fn build_empty_repeat(
 ) -> Result<u32, Memory>
     requires { (word : List ℕ) → Matches part.now word → word ≡ [] }
     ensures grows { OnOk result (Grows nfa.old nfa.new) }
-    ensures leads { IfOk result (λ first. Builds nfa.old nfa.new first (Repeats (Matches part.now) limits.0 limits.1) next) }
+    ensures leads { IfOk result
+        (λ first. Builds nfa.old nfa.new first (Repeats (Matches part.now) limits.0 limits.1) next) }
 {
     if limits.0 == 0 {
         return Ok(next);
@@ -157,7 +160,8 @@ fn build_more(
     next: u32,
 ) -> Result<u32, Memory>
     ensures grows { OnOk result (Grows nfa.old nfa.new) }
-    ensures leads { IfOk result (λ first. Builds nfa.old nfa.new first (RepeatsMore (Matches part.now) limits.0 limits.1) next) }
+    ensures leads { IfOk result
+        (λ first. Builds nfa.old nfa.new first (RepeatsMore (Matches part.now) limits.0 limits.1) next) }
 {
     match limits.1 {
         None => build_star(alloc, nfa, part, next),

@@ -56,7 +56,8 @@ fn end_of(regex: &Regex, containing: bool) -> State
 
 /// The nondeterministic automaton of a pattern, and the number of its first state.
 pub fn nfa_of(alloc: Global, regex: &Regex, containing: bool) -> Result<(Nfa, u32), Memory>
-    ensures { IfOk result (λ built. (word : List ℕ) → All IsCharacter word → NfaAccepts built.0 built.1 word ↔ Answers regex.now containing word) }
+    ensures { IfOk result (λ built. (word : List ℕ) → All IsCharacter word → NfaAccepts built.0 built.1 word
+        ↔ Answers regex.now containing word) }
 {
     let mut nfa = Nfa::new(alloc);
     let end = nfa.add(end_of(regex, containing))?;

@@ -1,8 +1,16 @@
 -- The arcs of a state while they are made, from the least character to the greatest.
-use Rattle.std.specs.Prelude.{◌≡◌, ℕ, ◌+◌, ◌<◌, ◌≤◌, Option, Some, List, All}
+use Rattle.std.specs.Prelude.{◌≡◌, ℕ, ◌+◌, ◌<◌, ◌≤◌, Option, Some, IfSome, IfNone, List, All}
+use Rattle.helix_base.specs.Alphabet.{ranges_of}
+use Rattle.helix_base.specs.declared.alphabet.Alphabet.TheVariants.{Unicode}
+use Rattle.helix_base.specs.Ranges.{IsLeastFrom, EndsBelow}
 use Rattle.helix_automata.specs.declared.arc.Arc.{Arc}
 use Rattle.helix_automata.specs.Automaton.{target}
-use Rattle.helix_automata.specs.Shape.{IsCharacter, IsNextCharacter, AreInOrder, HasCharacter}
+use Rattle.helix_automata.specs.Shape.{IsCharacter, AreInOrder, HasCharacter}
+
+-- the least character that isn't below a bound, if there is one
+pub record IsNextCharacter (bound : ℕ) (next : Option ℕ) : Type 0 where
+  pub some : IfSome next (IsLeastFrom (ranges_of Unicode) bound)
+  pub none : IfNone next (EndsBelow (ranges_of Unicode) bound)
 
 -- some arcs, and the least character that they don't hold, if there is one
 pub record Begun : Type 0 where

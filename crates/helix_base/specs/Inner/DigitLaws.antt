@@ -10,7 +10,8 @@ pub digit_within : (code : ℕ) → 48 ≤ code → code ≤ 57 → IsTrue (is_d
 digit_within code low high = and_from _ _ (le-leb 48 code low) (le-leb code 57 high)
 
 -- one digit more
-pub digits_push : (codes : List ℕ) (code : ℕ) → AreDigits codes → IsTrue (is_digit code) → AreDigits (codes ++ code ∷ [])
+pub digits_push : (codes : List ℕ) (code : ℕ) → AreDigits codes → IsTrue (is_digit code)
+    → AreDigits (codes ++ code ∷ [])
 digits_push [] code all here = (here, tt)
 digits_push (first ∷ codes) code all here = (all.0, digits_push codes code all.1 here)
 

@@ -17,7 +17,8 @@ GoesOn From (Some (Split one other)) word = From one word ⊎ From other word
 -- the word is accepted from a state, in n steps
 abbrev pub NfaAcceptsIn : List State → ℕ → ℕ → List ℕ → Type 0
 NfaAcceptsIn nfa zero state word = ⊥
-NfaAcceptsIn nfa (suc steps) state word = GoesOn (λ next rest. NfaAcceptsIn nfa steps next rest) (slice_get nfa state) word
+NfaAcceptsIn nfa (suc steps) state word =
+    GoesOn (λ next rest. NfaAcceptsIn nfa steps next rest) (slice_get nfa state) word
 
 -- in any number of them
 abbrev pub NfaAccepts : List State → ℕ → List ℕ → Type 0
@@ -26,7 +27,8 @@ NfaAccepts nfa state word = (steps : ℕ) × NfaAcceptsIn nfa steps state word
 -- what is accepted from one state is a word of a language and then what is accepted from another one, in no more steps
 pub record LeadsThrough (nfa : List State) (from : ℕ) (Language : List ℕ → Type 0) (to : ℕ) : Type 0 where
   pub splits : (steps : ℕ) (word : List ℕ) → NfaAcceptsIn nfa steps from word
-      → (front : List ℕ) × (rest : List ℕ) × (fewer : ℕ) × (word ≡ front ++ rest) × Language front × (fewer ≤ steps) × NfaAcceptsIn nfa fewer to rest
+      → (front : List ℕ) × (rest : List ℕ) × (fewer : ℕ) × (word ≡ front ++ rest) × Language front × (fewer ≤ steps)
+      × NfaAcceptsIn nfa fewer to rest
   pub joins : (front rest : List ℕ) → Language front → NfaAccepts nfa to rest → NfaAccepts nfa from (front ++ rest)
 
 -- states that are the same from one number up to the end of a list
@@ -40,4 +42,5 @@ pub record Grows (old new : List State) : Type 0 where
 
 -- the states that were added lead from one through a language to another, whatever the other states are
 abbrev pub Builds : List State → List State → ℕ → (List ℕ → Type 0) → ℕ → Type 0
-Builds old new from Language to = (nfa : List State) → AgreeFrom (length old) new nfa → LeadsThrough nfa from Language to
+Builds old new from Language to = (nfa : List State) → AgreeFrom (length old) new nfa
+    → LeadsThrough nfa from Language to

@@ -18,16 +18,12 @@ Before false word = AnyNumber (IsOneOf any_character) word
 -- a match and, where it may be contained in a word, what may be before it
 abbrev pub MatchEnds : Regex → Bool → List ℕ → Type 0
 MatchEnds regex false word = Matches regex.expr word
-MatchEnds regex true word = (before : List ℕ) × (middle : List ℕ) × (word ≡ before ++ middle) × Before regex.at_start before × Matches regex.expr middle
+MatchEnds regex true word = (before : List ℕ) × (middle : List ℕ) × (word ≡ before ++ middle)
+    × Before regex.at_start before × Matches regex.expr middle
 
 -- anything may follow a match
 abbrev pub is_open : Regex → Bool → Bool
 is_open regex containing = containing && not regex.at_end
-
--- after a match: anything where that may follow, and else nothing
-abbrev pub After : Bool → List ℕ → Type 0
-After true word = Unit {0}
-After false word = word ≡ []
 
 -- the state that accepts what may follow a match
 abbrev pub end_state : Bool → State

@@ -13,7 +13,8 @@ SomeAccepts nfa set word = (state : ℕ) × Contains set state × NfaAccepts nfa
 abbrev pub AcceptTheSame : List State → List ℕ → List ℕ → Type 0
 AcceptTheSame nfa one other = (word : List ℕ) → SomeAccepts nfa one word ↔ SomeAccepts nfa other word
 
--- a character leads from one set to another: that accepts a word exactly where this accepts the character and then the word
+-- a character leads from one set to another: that accepts a word exactly where this accepts the character and then the
+-- word
 abbrev pub LeadsTo : List State → List ℕ → ℕ → List ℕ → Type 0
 LeadsTo nfa set code next = (word : List ℕ) → SomeAccepts nfa next word ↔ SomeAccepts nfa set (code ∷ word)
 
@@ -23,7 +24,8 @@ HasNoSplit nfa set = (number one other : ℕ) → Contains set number → slice_
 
 -- the state reads either both codes or neither
 abbrev pub IsReadAlike : List State → ℕ → ℕ → ℕ → Type 0
-IsReadAlike nfa number code other = (ranges : List (ℕ × ℕ)) (next : ℕ) → slice_get nfa number ≡ Some (Read ranges next) → in_ranges ranges other ≡ in_ranges ranges code
+IsReadAlike nfa number code other = (ranges : List (ℕ × ℕ)) (next : ℕ) → slice_get nfa number ≡ Some (Read ranges next)
+    → in_ranges ranges other ≡ in_ranges ranges code
 
 -- the state accepts the empty word without a further step
 abbrev pub AcceptsEmpty : Option State → Type 0

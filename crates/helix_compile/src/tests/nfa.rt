@@ -6,7 +6,8 @@ use helix_expr::Ranges;
 use std::alloc::Global;
 use std::test::Fail;
 
-/// A state in a table: `e` accepts the empty word, `a` every word, `s` none, `r` reads a character from the first to the
+/// A state in a table: `e` accepts the empty word, `a` every word, `s` none, `r` reads a character from the first to
+/// the
 /// last of two codes and then is the state with this number, and `f` is a split.
 type Row = (char, u32, u32, u32);
 

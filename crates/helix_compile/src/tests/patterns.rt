@@ -1,13 +1,13 @@
 use crate::dfa_of;
 use helix_automata::Dfa;
 use helix_base::{Alphabet, Memory, Text};
-use helix_expr::{Expr, Exprs, Ranges, Regex, contains_match, matches};
+use helix_expr::{Regex, contains_match, matches};
 use helix_regex::{RegexError, parse};
 use std::alloc::Global;
 use std::test::Fail;
 
 /// What a pattern spells, or `None` where it is refused.
-fn regex_of(alloc: Global, pattern: &str) -> Result<Option<Regex>, Memory> {
+pub fn regex_of(alloc: Global, pattern: &str) -> Result<Option<Regex>, Memory> {
     match parse(alloc, &Text::of(alloc, pattern)?) {
         Ok(regex) => Ok(Some(regex)),
         Err(RegexError::Fault(_)) => Ok(None),
@@ -16,7 +16,7 @@ fn regex_of(alloc: Global, pattern: &str) -> Result<Option<Regex>, Memory> {
 }
 
 /// Whether the automaton accepts a word, or `None` where that has a character outside the alphabet.
-fn answer(dfa: &Dfa, word: &[u32]) -> Option<bool> {
+pub fn answer(dfa: &Dfa, word: &[u32]) -> Option<bool> {
     if word.iter().all(|code| Alphabet::Unicode.has(*code)) {
         Some(dfa.accepts(word))
     } else {
@@ -121,7 +121,7 @@ fn contained_words_match(rt: HostRuntime) -> Result<(), Fail> {
     Ok(())
 }
 
-/// Appends the letters a and b of a number in base two, so many of them.
+/// Appends n letters a and b, those of a number in base two.
 fn push_letters(word: &mut Text, number: u32, length: u32) -> Result<(), Memory> {
     let mut rest = number;
     for _ in 0..length {
@@ -141,7 +141,7 @@ fn agree(regex: &Regex, whole: &Dfa, contained: &Dfa, word: &[u32]) -> bool {
         && answer(contained, word) == Some(contains_match(regex, word))
 }
 
-/// How many words of a and b, up to six letters, the automata and the plain matcher answer alike.
+/// The number of words of a and b, up to six letters, that the automata and the plain matcher answer alike.
 fn agreeing(alloc: Global, pattern: &str) -> Result<u32, Memory> {
     let mut count: u32 = 0;
     if let Some(regex) = regex_of(alloc, pattern)? {
@@ -216,55 +216,5 @@ fn products_and_complements_of_patterns_accept(rt: HostRuntime) -> Result<(), Fa
             assert_eq!(rt; answer(&dfa, word.codes()), Some(want), "{string}");
         }
     }
-    Ok(())
-}
-
-/// The number of states of the automaton of a pattern.
-fn states(alloc: Global, pattern: &str, containing: bool) -> Result<u32, Memory> {
-    match regex_of(alloc, pattern)? {
-        Some(regex) => Ok(dfa_of(alloc, &regex, containing)?.states()),
-        None => Ok(0),
-    }
-}
-
-/// As many alternatives of one character, no two of them neighbours.
-fn alternatives(alloc: Global, count: u16) -> Result<Regex, Memory> {
-    let mut parts = Exprs::new(alloc);
-    for i in 0..count {
-        let code = 0x4E00 + 2 * u32::from(i);
-        let mut ranges = Ranges::new(alloc);
-        ranges.push((code, code))?;
-        parts.push(Expr::Chars(ranges))?;
-    }
-    Ok(Regex {
-        expr: Expr::Alt(parts),
-        at_start: false,
-        at_end: false,
-    })
-}
-
-#[test]
-fn automata_have_a_state_for_each_set_that_is_met(rt: HostRuntime) -> Result<(), Fail> {
-    // One for each prefix that a match may have, and one for words that have none; where anything may follow a match,
-    // one for all words that contain it.
-    let cases = [
-        (".{1000}", false, 1002),
-        ("TR[0-9]{6}", false, 10),
-        ("[A-Z]{2}[A-Z0-9]{9}[0-9]", false, 14),
-        ("(a|b)*a(a|b){14}", false, 32_769),
-        ("(.{0,1000}){5}", true, 1),
-        ("^(.{0,1000}){5}", true, 1),
-        (".{1000}", true, 1001),
-        ("TR[0-9]{6}", true, 9),
-        ("^ab", true, 4),
-        ("ab$", true, 3),
-    ];
-    for (pattern, containing, want) in cases {
-        assert_eq!(rt; states(rt.alloc(), pattern, containing)?, want, "{pattern}");
-    }
-    let many = dfa_of(rt.alloc(), &alternatives(rt.alloc(), 5000)?, false)?;
-    assert_eq!(rt; (many.states(), many.range_ends()), (3, 10_001));
-    assert_eq!(rt; answer(&many, &[0x4E00 + 9998]), Some(true));
-    assert_eq!(rt; answer(&many, &[0x4E00 + 9999]), Some(false));
     Ok(())
 }

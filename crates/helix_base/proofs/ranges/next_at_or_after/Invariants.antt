@@ -7,5 +7,6 @@ use Rattle.helix_base.proofs.ranges.next_at_or_after.Given as goal
 abbrev pub invariant-loop-range : goal.invariant-loop-range
 invariant-loop-range l =
     (are_in_order (drop l.range-index l.ranges) ≡ true)
-    × ((other : ℕ) → IsTrue (in_ranges l.ranges other) → l.code ≤ other → IsTrue (in_ranges (drop l.range-index l.ranges) other))
+    × ((other : ℕ) → IsTrue (in_ranges l.ranges other) → l.code ≤ other
+    → IsTrue (in_ranges (drop l.range-index l.ranges) other))
     × ((other : ℕ) → IsTrue (in_ranges (drop l.range-index l.ranges) other) → IsTrue (in_ranges l.ranges other))

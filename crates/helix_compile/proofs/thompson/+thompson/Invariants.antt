@@ -45,13 +45,16 @@ abbrev pub decreases-build_in_order-loop-left : goal.decreases-build_in_order-lo
 decreases-build_in_order-loop-left l = length l.left
 
 abbrev pub invariant-build_alternatives-loop-left : goal.invariant-build_alternatives-loop-left
-invariant-build_alternatives-loop-left l = (done : List Expr) × (l.parts ≡ l.left ++ done) × AreAlternatives l.fn.nfa l.nfa l.first l.chars done l.next
+invariant-build_alternatives-loop-left l = (done : List Expr) × (l.parts ≡ l.left ++ done)
+    × AreAlternatives l.fn.nfa l.nfa l.first l.chars done l.next
 
 abbrev pub decreases-build_alternatives-loop-left : goal.decreases-build_alternatives-loop-left
 decreases-build_alternatives-loop-left l = length l.left
 
 abbrev pub invariant-build_optional-loop : goal.invariant-build_optional-loop
-invariant-build_optional-loop l = Grows l.initial.nfa l.nfa × Builds l.initial.nfa l.nfa l.first (UpToNumber (Matches l.part) l.counter) l.next
+invariant-build_optional-loop l = Grows l.initial.nfa l.nfa
+    × Builds l.initial.nfa l.nfa l.first (UpToNumber (Matches l.part) l.counter) l.next
 
 abbrev pub invariant-build_times-loop : goal.invariant-build_times-loop
-invariant-build_times-loop l = Grows l.initial.nfa l.nfa × Builds l.initial.nfa l.nfa l.first (Joined (Matches l.part) l.counter) l.next
+invariant-build_times-loop l = Grows l.initial.nfa l.nfa
+    × Builds l.initial.nfa l.nfa l.first (Joined (Matches l.part) l.counter) l.next
