@@ -31,7 +31,8 @@ Ends automaton state = slice_get automaton.accepting state ≡ Some true
 -- from a state on, the word leads to one that accepts
 abbrev pub AcceptsFrom : Automaton → ℕ → List ℕ → Type 0
 AcceptsFrom automaton state [] = Ends automaton state
-AcceptsFrom automaton state (code ∷ word) = (next : ℕ) × Leads automaton state code next × AcceptsFrom automaton next word
+AcceptsFrom automaton state (code ∷ word) = (next : ℕ) × Leads automaton state code next
+    × AcceptsFrom automaton next word
 
 -- the word leads from the start to a state that accepts
 abbrev pub Accepts : Automaton → List ℕ → Type 0

@@ -1,5 +1,4 @@
 pub mod Automaton
+pub mod Inner
+pub mod Machine
 pub mod Shape
-pub mod Joining
-pub mod Row
-pub mod Product

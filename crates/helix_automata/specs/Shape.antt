@@ -1,19 +1,13 @@
 -- The shape of an automaton: from each state each character leads to one state.
-use Rattle.std.specs.Prelude.{◌≡◌, ℕ, ◌<◌, ◌≤◌, ◌^◌, IsTrue, List, [], ◌∷◌, length, All, Option, Some, IfSome, IfNone}
-use Rattle.helix_base.specs.Alphabet.{IsCharacterOf, ranges_of}
+use Rattle.std.specs.Prelude.{◌≡◌, ℕ, ◌<◌, ◌≤◌, ◌^◌, IsTrue, List, [], ◌∷◌, length, All, Some}
+use Rattle.helix_base.specs.Alphabet.{IsCharacterOf}
 use Rattle.helix_base.specs.declared.alphabet.Alphabet.TheVariants.{Unicode}
-use Rattle.helix_base.specs.Ranges.{IsLeastFrom, EndsBelow}
 use Rattle.helix_automata.specs.declared.arc.Arc.{Arc}
 use Rattle.helix_automata.specs.Automaton.{Automaton, holds, target}
 
 -- a code is a character of the alphabet over which automata work
 abbrev pub IsCharacter : ℕ → Type 0
 IsCharacter code = IsCharacterOf Unicode code
-
--- the least character that isn't below a bound, if there is one
-pub record IsNextCharacter (bound : ℕ) (next : Option ℕ) : Type 0 where
-  pub some : IfSome next (IsLeastFrom (ranges_of Unicode) bound)
-  pub none : IfNone next (EndsBelow (ranges_of Unicode) bound)
 
 -- each arc ends below the beginning of the next one
 abbrev pub AreInOrder : List Arc → Type 0
@@ -29,14 +23,15 @@ HasCharacter arc = (code : ℕ) × IsCharacter code × IsTrue (holds code arc)
 abbrev pub LeadOn : ℕ → List Arc → Type 0
 LeadOn bound arcs = (code : ℕ) → IsCharacter code → bound ≤ code → (next : ℕ) × (target arcs code ≡ Some next)
 
--- the arcs of a state of an automaton with so many states
+-- the arcs of a state of an automaton with n states
 pub record AreArcs (states : ℕ) (arcs : List Arc) : Type 0 where
   pub in_order : AreInOrder arcs
   pub lead_on : LeadOn 0 arcs
   pub used : All HasCharacter arcs
   pub named : All (λ arc. arc.to < states) arcs
 
-pub record HasShape (automaton : Automaton) : Type 0 where
+-- the start is a state, each state has a flag and arcs, and 32 bits are enough for the numbers of the states
+pub record IsWellFormed (automaton : Automaton) : Type 0 where
   pub some : 0 < length automaton.moves
   pub few : length automaton.moves < 2 ^ 32
   pub flags : length automaton.accepting ≡ length automaton.moves

@@ -2,13 +2,12 @@
 
 ghost use Rattle.std.specs.Prelude.{ℕ, List, ◌≡◌, ◌↔◌, ◌<◌, ◌≤◌, IsTrue, IfOk, OnOk, IsErrOf, All, Any, length, slice_get, Some};
 ghost use Rattle.helix_automata.specs.Automaton.{Automaton, Accepts, Leads, arcs_of};
-ghost use Rattle.helix_automata.specs.Shape.{AreArcs, HasShape, IsCharacter};
+ghost use Rattle.helix_automata.specs.Shape.{AreArcs, IsWellFormed, IsCharacter};
 
-use crate::arc::Arc;
-use crate::lists::{Flags, Moves};
-use crate::moving::arc_at;
-use crate::pairs::Pairs;
-use crate::product::{pair_accepts, pair_arcs};
+use crate::arc::{Arc, Flags, Moves};
+use crate::exploration::explore;
+use crate::lookup::arc_of;
+use crate::product::Both;
 use crate::shape::are_rows;
 use helix_base::Memory;
 use std::alloc::Global;
@@ -33,20 +32,21 @@ pub struct Dfa {
 
 impl Model for Dfa {
     ghost use Rattle.helix_automata.specs.Automaton.{Automaton};
-    ghost use Rattle.helix_automata.specs.Shape.{HasShape};
+    ghost use Rattle.helix_automata.specs.Shape.{IsWellFormed};
 
     ghost Value = { Automaton };
 
     ghost view = { λ dfa. record { moves = dfa.moves; accepting = dfa.flags } };
 
-    ghost invariant = { λ dfa. HasShape (record { moves = dfa.moves; accepting = dfa.flags }) };
+    ghost invariant = { λ dfa. IsWellFormed (record { moves = dfa.moves; accepting = dfa.flags }) };
 }
 
 impl Dfa {
     /// The automaton with these moves and accepting states; state 0 is the start.
     pub fn build(moves: Moves, accepting: Flags) -> Result<Dfa, DfaFault>
         ensures ok { IfOk result (λ dfa. (dfa.moves ≡ moves) × (dfa.accepting ≡ accepting)) }
-        ensures shape { IsErrOf result DfaFault.Shape ↔ (HasShape (record { moves = moves; accepting = accepting }) → ⊥) }
+        ensures shape { IsErrOf result DfaFault.Shape
+            ↔ (IsWellFormed (record { moves = moves; accepting = accepting }) → ⊥) }
     {
         let states = moves.as_slice().len();
         if states == 0 || states > u32::MAX as usize || accepting.as_slice().len() != states {
@@ -59,6 +59,14 @@ impl Dfa {
             moves,
             flags: accepting,
         })
+    }
+
+    /// The automaton with these moves and accepting states, which are well formed.
+    pub(crate) fn of(moves: Moves, flags: Flags) -> Dfa
+        requires { IsWellFormed (record { moves = moves; accepting = flags }) }
+        ensures { result ≡ record { moves = moves; accepting = flags } }
+    {
+        Dfa { moves, flags }
     }
 
     /// How many states there are.
@@ -105,8 +113,7 @@ impl Dfa {
         ensures within { result < length self.now.moves }
         ensures leads { Leads self.now state code result }
     {
-        let arcs = self.arcs(state);
-        arcs[arc_at(arcs, code)].to
+        arc_of(self.arcs(state), code).to
     }
 
     /// Whether the automaton accepts a word.
@@ -122,30 +129,25 @@ impl Dfa {
         self.accepting(state)
     }
 
-    /// The automaton that accepts the words that both accept. Its states are pairs of theirs, numbered as they are met.
-    /// Want of memory is answered too where it would have 2^32 - 1 states or more.
+    /// The automaton that accepts the words that both accept. Its states are pairs of theirs, those that can be reached
+    /// from both starts, so it has up to the product of their numbers; a state has fewer arcs than the two of its pair
+    /// have together. Out of memory is answered too where there would be 2^32 - 1 states or more.
     pub fn product(&self, alloc: Global, other: &Dfa) -> Result<Dfa, Memory>
         ensures { IfOk result (λ both. (word : List ℕ) → All IsCharacter word
             → Accepts both word ↔ (Accepts self.now word × Accepts other.now word)) }
     {
         let (_states, _others) = (self.states(), other.states());
-        let mut pairs = Pairs::new(alloc);
-        pairs.number((0, 0))?;
-        let mut moves = Moves::new(alloc);
-        let mut flags = Flags::new(alloc);
-        for done in 0..u32::MAX {
-            let Some(pair) = pairs.get(done) else {
-                return Ok(Dfa { moves, flags });
-            };
-            moves.push(pair_arcs(alloc, self, other, pair, &mut pairs)?)?;
-            flags.push(pair_accepts(self, other, pair))?;
-        }
-        Err(Memory)
+        let both = Both {
+            left: self,
+            right: other,
+        };
+        explore(alloc, &both, (0, 0), &mut ())
     }
 
     /// The automaton that accepts the words over the alphabet that this one doesn't.
     pub fn complement(&self, alloc: Global) -> Result<Dfa, Memory>
-        ensures { IfOk result (λ other. (word : List ℕ) → All IsCharacter word → Accepts other word ↔ (Accepts self.now word → ⊥)) }
+        ensures { IfOk result (λ other. (word : List ℕ) → All IsCharacter word → Accepts other word
+            ↔ (Accepts self.now word → ⊥)) }
     {
         let mut flags = Flags::new(alloc);
         for flag in self.flags.as_slice() {

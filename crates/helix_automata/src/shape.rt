@@ -1,10 +1,10 @@
 //! Whether arcs have the shape that an automaton asks for.
 
 ghost use Rattle.std.specs.Prelude.{◌↔◌, IsTrue, All, ◌<◌, ◌+◌};
-ghost use Rattle.helix_automata.specs.Shape.{AreInOrder, AreArcs, LeadOn, HasCharacter, IsNextCharacter};
+ghost use Rattle.helix_automata.specs.Shape.{AreInOrder, AreArcs, LeadOn, HasCharacter};
+ghost use Rattle.helix_automata.specs.Inner.Row.{IsNextCharacter};
 
-use crate::arc::Arc;
-use crate::lists::Arcs;
+use crate::arc::{Arc, Arcs};
 use helix_base::Alphabet;
 
 /// The least character above a code.
@@ -32,7 +32,7 @@ fn are_in_order(arcs: &[Arc]) -> bool
     true
 }
 
-/// Whether each arc leads to one of so many states.
+/// Whether each arc leads to one of n states.
 fn are_named(arcs: &[Arc], states: usize) -> bool
     ensures { IsTrue result ↔ All (λ arc. arc.to < states) arcs.now }
 {
@@ -57,14 +57,14 @@ fn hold_characters(arcs: &[Arc]) -> bool
     wanted.is_none()
 }
 
-/// Whether these can be the arcs of a state of an automaton with so many states.
+/// Whether these can be the arcs of a state of an automaton with n states.
 pub fn are_arcs(arcs: &[Arc], states: usize) -> bool
     ensures { IsTrue result ↔ AreArcs states arcs.now }
 {
     are_in_order(arcs) && hold_characters(arcs) && are_named(arcs, states)
 }
 
-/// Whether each of these can be the arcs of a state of an automaton with so many states.
+/// Whether each of these can be the arcs of a state of an automaton with n states.
 pub fn are_rows(rows: &[Arcs], states: usize) -> bool
     ensures { IsTrue result ↔ All (AreArcs states) rows.now }
 {

@@ -1,5 +1,2 @@
-pub mod Places
-pub mod Repeating
-pub mod Patterns
-pub mod Closing
-pub mod Subsets
+pub mod Answers
+pub mod Inner

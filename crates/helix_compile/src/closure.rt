@@ -1,42 +1,48 @@
-//! Where forks lead.
+//! The epsilon closure of a set of states.
 
 ghost use Rattle.std.specs.Prelude.{OnOk, slice_get};
-ghost use Rattle.helix_compile.specs.Closing.{Visits};
-ghost use Rattle.helix_compile.specs.Subsets.{ReadTheSame, HasNoFork};
+ghost use Rattle.helix_compile.specs.Inner.Closure.{Visits};
+ghost use Rattle.helix_compile.specs.Inner.Subsets.{AcceptTheSame, HasNoSplit};
 
-use crate::met::Met;
-use crate::place::Place;
-use crate::reading::{fork_at, goes_on_at};
+use crate::nfa::State;
+use crate::seen::Seen;
+use crate::state_at::{accepts_all_at, is_kept_at, split_at};
 use helix_base::Memory;
 
-/// Notes both sides of a place that is a fork, and finds one at which a word ends or a character is read.
-fn visit(places: &[Place], number: u32, met: &mut Met, found: &mut Vec<u32>) -> Result<(), Memory>
-    ensures { OnOk result (Visits (slice_get places.now number) number met.old met.new found.old.items found.new.items) }
+/// Notes both sides of a split, and finds a state that accepts or reads a character.
+fn visit(nfa: &[State], number: u32, seen: &mut Seen, found: &mut Vec<u32>) -> Result<(), Memory>
+    ensures { OnOk result (Visits (slice_get nfa.now number) number seen.old seen.new found.old.items found.new.items) }
 {
-    if let Some((one, other)) = fork_at(places, number) {
-        met.note(one)?;
-        return met.note(other);
+    if let Some((one, other)) = split_at(nfa, number) {
+        seen.note(one)?;
+        return seen.note(other);
     }
-    if !goes_on_at(places, number) {
+    if !is_kept_at(nfa, number) {
         return Ok(());
     }
     found.push(number)?;
     Ok(())
 }
 
-/// Finds the places other than forks to which those that have been met lead without a character, in order. Want of
-/// memory is answered too where 2^32 - 1 places or more are met.
-pub fn close(places: &[Place], met: &mut Met, found: &mut Vec<u32>) -> Result<(), Memory>
-    ensures same { OnOk result (ReadTheSame places.now met.old found.new.items) }
-    ensures no_fork { OnOk result (HasNoFork places.now found.new.items) }
+/// Computes the epsilon closure of the states that have been seen, without its splits and failures, in ascending order.
+/// Where one of them accepts every word, it is found alone, since the others add no word. Out of memory is answered too
+/// where 2^32 - 1 states or more are seen.
+pub fn epsilon_closure(nfa: &[State], seen: &mut Seen, found: &mut Vec<u32>) -> Result<(), Memory>
+    ensures same { OnOk result (AcceptTheSame nfa.now seen.old found.new.items) }
+    ensures no_split { OnOk result (HasNoSplit nfa.now found.new.items) }
 {
     found.clear();
     for done in 0..u32::MAX {
-        let Some(number) = met.get(done) else {
+        let Some(number) = seen.get(done) else {
             found.sort_unstable();
             return Ok(());
         };
-        visit(places, number, met, found)?;
+        if accepts_all_at(nfa, number) {
+            found.clear();
+            found.push(number)?;
+            return Ok(());
+        }
+        visit(nfa, number, seen, found)?;
     }
     Err(Memory)
 }

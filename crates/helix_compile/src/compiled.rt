@@ -3,10 +3,10 @@
 ghost use Rattle.std.specs.Prelude.{ℕ, List, ◌↔◌, IfOk, All};
 ghost use Rattle.helix_automata.specs.Automaton.{Accepts};
 ghost use Rattle.helix_automata.specs.Shape.{IsCharacter};
-ghost use Rattle.helix_compile.specs.Patterns.{Answers};
+ghost use Rattle.helix_compile.specs.Answers.{Answers};
 
-use crate::construction::subsets;
-use crate::pattern::places_of;
+use crate::determinize::determinize;
+use crate::whole::nfa_of;
 use helix_automata::Dfa;
 use helix_base::Memory;
 use helix_expr::Regex;
@@ -14,9 +14,15 @@ use std::alloc::Global;
 
 /// The automaton of the words that a pattern matches or, where `containing` is true, of those that contain a match with
 /// the pattern's anchors.
+///
+/// With n positions in the pattern, repeats written out, the answer has up to 2^n states: one for each set of positions
+/// that some word leads to, which for most patterns are about n, for `(a|b)*a(a|b){14}` 2^15. Where a match is to be
+/// contained and no anchor ends it, every match leads to one accepting state that all characters lead back to. A state
+/// has up to twice as many arcs as the ranges of its positions, and one more.
 pub fn dfa_of(alloc: Global, regex: &Regex, containing: bool) -> Result<Dfa, Memory>
-    ensures { IfOk result (λ dfa. (word : List ℕ) → All IsCharacter word → Accepts dfa word ↔ Answers regex.now containing word) }
+    ensures { IfOk result (λ dfa. (word : List ℕ) → All IsCharacter word → Accepts dfa word
+        ↔ Answers regex.now containing word) }
 {
-    let (places, first) = places_of(alloc, regex, containing)?;
-    subsets(alloc, places.as_slice(), first)
+    let (nfa, first) = nfa_of(alloc, regex, containing)?;
+    determinize(alloc, nfa.as_slice(), first)
 }

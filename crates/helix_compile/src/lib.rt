@@ -1,22 +1,30 @@
 //! The automaton of a pattern.
 //!
-//! An expression is laid out as places, among which a word is read from the first to the end: a place reads a character,
-//! or goes on at one of two others (`specs/Places.antt`). So the places read exactly what the pattern answers for
-//! (`specs/Patterns.antt`). A state of the automaton is a set of places that are reached together
-//! (`specs/Subsets.antt`), and so it accepts exactly what the places read.
+//! ```text
+//! let dfa = dfa_of(alloc, &regex, false)?;      // of the words that the pattern matches
+//! dfa.accepts(word.codes())                     // whether it matches the word
+//! dfa_of(alloc, &regex, true)?                  // of the words that contain a match
+//! ```
+//!
+//! What is proved: over characters, [`dfa_of`] accepts exactly the words that the pattern matches or contains
+//! (`specs/Answers.antt`, over the matching of the crate below). How large the answer is, no clause says: see its page.
+//!
+//! The expression becomes a nondeterministic automaton by Thompson's construction (`thompson`, `alternatives`,
+//! `specs/Inner/Nfa.antt`), and that a deterministic one by the subset construction (`determinize`, `step`, `closure`,
+//! `specs/Inner/Subsets.antt`), which the exploration of helix_automata carries out.
 #![tactic(auto)]
 
+mod alternatives;
 mod closure;
 mod compiled;
-mod construction;
-mod layout;
-mod met;
-mod pattern;
-mod place;
-mod reading;
-mod sets;
-mod silence;
+mod determinize;
+mod empty_words;
+mod nfa;
+mod seen;
+mod state_at;
 mod step;
+mod thompson;
+mod whole;
 
 pub use compiled::dfa_of;
 

@@ -1,2 +1,3 @@
+mod nfa;
 mod patterns;
-mod places;
+mod states;

@@ -4,12 +4,15 @@ use Rattle.helix_compile.proofs.step.alike_up_to.Goals as goal
 
 pub loop-number-preserved : goal.loop-number-preserved
 loop-number-preserved c = (
-  omega (arith, c.min-last.ensures, c.loop-number.invariant.0, c.place_alike_up_to.ensures.reached),
-  (λ other low high. alike_more c.args.places.now c.args.set.now c.loop-number.number-index _ c.args.code other c.loop-number-test.true
+  omega (arith, c.min-last.ensures, c.loop-number.invariant.0, c.state_alike_up_to.ensures.reached),
+  (λ other low high. alike_more c.args.nfa.now c.args.set.now c.loop-number.number-index _ c.args.code other
+      c.loop-number-test.true
       (c.loop-number.invariant.1 other low (omega (arith, high, c.min-last.ensures)))
-      (c.place_alike_up_to.ensures.alike other low (omega (arith, high, c.min-last.ensures)))),
+      (c.state_alike_up_to.ensures.alike other low (omega (arith, high, c.min-last.ensures)))),
 )
 
 pub returns-clause-alike : goal.returns-clause-alike
-returns-clause-alike c = λ other low high. alike_all c.args.places.now c.args.set.now c.loop-number.number-index c.args.code other (omega (arith, c.loop-number-test.false))
+returns-clause-alike c =
+    λ other low high. alike_all c.args.nfa.now c.args.set.now c.loop-number.number-index c.args.code other
+    (omega (arith, c.loop-number-test.false))
     (c.loop-number.invariant.1 other low high)

@@ -1,0 +1,5 @@
+pub mod Explore
+pub mod Lookup
+pub mod PairLaws
+pub mod Row
+pub mod WithArc

@@ -1,0 +1,12 @@
+-- Machines whose states are of any type.
+use Rattle.std.specs.Prelude.{ℕ, ◌≤◌, ◌↔◌, List, ◌∷◌}
+use Rattle.helix_automata.specs.Shape.{IsCharacter}
+
+-- the characters from the first code to the last one lead from a state to the next one: the next one accepts a word
+-- exactly where the state accepts the character and then the word
+pub record LeadsOn {S : Type 0} (IsState : S → Type 0) (Words : S → List ℕ → Type 0) (state : S) (first last : ℕ)
+    (next : S) : Type 0 where
+  pub reached : first ≤ last
+  pub is_state : IsState next
+  pub leads : (code : ℕ) → IsCharacter code → first ≤ code → code ≤ last → (word : List ℕ) → Words next word
+      ↔ Words state (code ∷ word)

@@ -1,0 +1,7 @@
+pub mod Alternatives
+pub mod Closure
+pub mod Nfa
+pub mod Patterns
+pub mod Repeats
+pub mod SubsetLaws
+pub mod Subsets
