@@ -25,12 +25,12 @@ abbrev pub Leads : Automaton → ℕ → ℕ → ℕ → Type 0
 Leads automaton state code next = target (arcs_of automaton state) code ≡ Some next
 
 -- the state accepts
-abbrev pub Ends : Automaton → ℕ → Type 0
-Ends automaton state = slice_get automaton.accepting state ≡ Some true
+abbrev pub IsAccepting : Automaton → ℕ → Type 0
+IsAccepting automaton state = slice_get automaton.accepting state ≡ Some true
 
 -- from a state on, the word leads to one that accepts
 abbrev pub AcceptsFrom : Automaton → ℕ → List ℕ → Type 0
-AcceptsFrom automaton state [] = Ends automaton state
+AcceptsFrom automaton state [] = IsAccepting automaton state
 AcceptsFrom automaton state (code ∷ word) = (next : ℕ) × Leads automaton state code next
     × AcceptsFrom automaton next word
 

@@ -16,8 +16,8 @@ use std::marker::Model;
 /// Why moves and flags make no automaton.
 #[derive(Clone, Copy, Debug, PartialEq, Eq)]
 pub enum DfaFault {
-    /// There is no state, there are 2^32 or more, there are more or fewer flags than states, the arcs of a state don't
-    /// stand in order and apart, leave a character out or have one that holds none, or an arc leads to no state.
+    /// There is no state, there are 2^32 or more, there are more or fewer flags than states, the arcs of a state aren't
+    /// in order and apart, leave a character out or have one that holds none, or an arc leads to no state.
     Shape,
     /// An allocation failed.
     Memory,

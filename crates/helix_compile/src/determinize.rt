@@ -71,8 +71,7 @@ fn start_set(alloc: Global, nfa: &[State], start: u32, seen: &mut Seen) -> Resul
 }
 
 /// The deterministic automaton that accepts what a nondeterministic one accepts from a state. Its states are the sets
-/// of
-/// states that can be reached together: up to 2^n for n states, though for most patterns about as many as there are
+/// of states that can be reached together: up to 2^n for n states, though for most patterns about as many as there are
 /// states. Out of memory is answered too where there would be 2^32 - 1 or more.
 pub fn determinize(alloc: Global, nfa: &[State], start: u32) -> Result<Dfa, Memory>
     ensures { IfOk result (λ dfa. (word : List ℕ) → All IsCharacter word → Accepts dfa word

@@ -1,3 +1,1 @@
 mod nfa;
-mod patterns;
-mod states;

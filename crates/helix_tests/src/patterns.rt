@@ -1,6 +1,8 @@
-use crate::dfa_of;
+//! The automata of patterns accept what the plain matcher says.
+
 use helix_automata::Dfa;
 use helix_base::{Alphabet, Memory, Text};
+use helix_compile::dfa_of;
 use helix_expr::{Regex, contains_match, matches};
 use helix_regex::{RegexError, parse};
 use std::alloc::Global;

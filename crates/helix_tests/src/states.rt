@@ -1,6 +1,8 @@
-use crate::dfa_of;
-use crate::tests::patterns::{answer, regex_of};
+//! How many states the automata of patterns have.
+
+use crate::patterns::{answer, regex_of};
 use helix_base::Memory;
+use helix_compile::dfa_of;
 use helix_expr::{Expr, Exprs, Ranges, Regex};
 use std::alloc::Global;
 use std::test::Fail;
