@@ -7,7 +7,7 @@ ghost use Rattle.helix_automata.specs.Inner.Lookup.{IsFirstReaching};
 
 use crate::arc::Arc;
 
-/// Rows of at most this many arcs are scanned from the front, which is faster there than a binary search.
+/// Rows of at most this many arcs are scanned from the first one, which is faster there than a binary search.
 const SHORT_ROW: usize = 8;
 
 /// Index of the first arc that doesn't end below a code.

@@ -16,8 +16,8 @@ Silent (part ∷ parts) = Quiet (Matches part) × Silent parts
 
 pub quiet_in_order : (parts : List Expr) → Silent parts → Quiet (MatchInOrder parts)
 quiet_in_order [] silent word empty = empty
-quiet_in_order (part ∷ parts) (first, others) word (front, rest, is, matches, more) =
-    is ∙ (ap (λ l. l ++ rest) (first front matches) ∙ quiet_in_order parts others rest more)
+quiet_in_order (part ∷ parts) (first, others) word (prefix, rest, is, matches, more) =
+    is ∙ (ap (λ l. l ++ rest) (first prefix matches) ∙ quiet_in_order parts others rest more)
 
 pub quiet_some : (parts : List Expr) → Silent parts → Quiet (MatchSome parts)
 quiet_some [] silent word none = absurd none
@@ -26,8 +26,8 @@ quiet_some (part ∷ parts) (first, others) word (inr more) = quiet_some parts o
 
 pub quiet_joined : (L : List ℕ → Type 0) → Quiet L → (count : ℕ) → Quiet (Joined L count)
 quiet_joined L quiet zero word empty = empty
-quiet_joined L quiet (suc count) word (front, rest, is, has, more) = is
-    ∙ (ap (λ l. l ++ rest) (quiet front has) ∙ quiet_joined L quiet count rest more)
+quiet_joined L quiet (suc count) word (prefix, rest, is, has, more) = is
+    ∙ (ap (λ l. l ++ rest) (quiet prefix has) ∙ quiet_joined L quiet count rest more)
 
 never_joined : (L : List ℕ → Type 0) (count : ℕ) → count ≤ 0 → Quiet (Joined L count)
 never_joined L zero few word empty = empty
@@ -80,9 +80,9 @@ once_asked L least most quiet some allowed word = (
   where
     once : (count : ℕ) → Joined L count word → 1 ≤ count → L word
     once zero joined few = absurd (omega (arith, few))
-    once (suc count) (front, rest, is, has, more) few =
-        let empty : word ≡ [] = is ∙ (ap (λ l. l ++ rest) (quiet front has) ∙ quiet_joined L quiet count rest more) in
-        subst L (quiet front has ∙ sym empty) has
+    once (suc count) (prefix, rest, is, has, more) few =
+        let empty : word ≡ [] = is ∙ (ap (λ l. l ++ rest) (quiet prefix has) ∙ quiet_joined L quiet count rest more) in
+        subst L (quiet prefix has ∙ sym empty) has
 
 pub too_few_allowed : (L : List ℕ → Type 0) (least : ℕ) (most : Option ℕ) → ¬ (UpTo most least) → (word : List ℕ) → ⊥
     ↔ Repeats L least most word

@@ -7,14 +7,14 @@ use Rattle.helix_compile.specs.Inner.Nfa.{GoesOn, NfaAcceptsIn, NfaAccepts, Lead
 
 -- the words that are joined from one of each language
 abbrev pub Both : (List ℕ → Type 0) → (List ℕ → Type 0) → List ℕ → Type 0
-Both L M word = (front : List ℕ) × (rest : List ℕ) × (word ≡ front ++ rest) × L front × M rest
+Both L M word = (prefix : List ℕ) × (rest : List ℕ) × (word ≡ prefix ++ rest) × L prefix × M rest
 
 module _ (nfa : List State) where
   -- nothing is read on the way to the same state
   pub leads_nothing : (state : ℕ) → LeadsThrough nfa state (λ w. w ≡ []) state
   leads_nothing state = record {
     splits = λ steps word reads. ([], word, steps, refl, refl, omega arith, reads);
-    joins = λ front rest empty reads. subst (λ f. NfaAccepts nfa state (f ++ rest)) (sym empty) reads;
+    joins = λ prefix rest empty reads. subst (λ f. NfaAccepts nfa state (f ++ rest)) (sym empty) reads;
   }
 
   -- one language after the other
@@ -22,29 +22,29 @@ module _ (nfa : List State) where
       → LeadsThrough nfa a (Both L M) c
   leads_both a b c L M first second = record {
     splits = λ steps word reads.
-        let (front, later, fewer, is, in_first, few, on) = first.splits steps word reads in
+        let (prefix, later, fewer, is, in_first, few, on) = first.splits steps word reads in
         let (middle, rest, least, goes, in_second, less, ends) = second.splits fewer later on in (
-          front ++ middle,
+          prefix ++ middle,
           rest,
           least,
-          is ∙ (ap (λ l. front ++ l) goes ∙ sym (append_assoc front middle rest)),
-          (front, middle, refl, in_first, in_second),
+          is ∙ (ap (λ l. prefix ++ l) goes ∙ sym (append_assoc prefix middle rest)),
+          (prefix, middle, refl, in_first, in_second),
           omega (arith, few, less),
           ends,
         );
     joins = λ both rest split reads.
-        let (front, middle, is, in_first, in_second) = split in
-        subst (λ l. NfaAccepts nfa a l) (sym (ap (λ l. l ++ rest) is ∙ append_assoc front middle rest))
-        (first.joins front (middle ++ rest) in_first (second.joins middle rest in_second reads));
+        let (prefix, middle, is, in_first, in_second) = split in
+        subst (λ l. NfaAccepts nfa a l) (sym (ap (λ l. l ++ rest) is ∙ append_assoc prefix middle rest))
+        (first.joins prefix (middle ++ rest) in_first (second.joins middle rest in_second reads));
   }
 
   -- the same words
   pub leads_same : (a b : ℕ) (L M : List ℕ → Type 0) → ((w : List ℕ) → L w → M w) → ((w : List ℕ) → M w → L w)
       → LeadsThrough nfa a L b → LeadsThrough nfa a M b
   leads_same a b L M to from leads = record {
-    splits = λ steps word reads. let (front, rest, fewer, is, has, few, on) =
-        leads.splits steps word reads in (front, rest, fewer, is, to front has, few, on);
-    joins = λ front rest has reads. leads.joins front rest (from front has) reads;
+    splits = λ steps word reads. let (prefix, rest, fewer, is, has, few, on) =
+        leads.splits steps word reads in (prefix, rest, fewer, is, to prefix has, few, on);
+    joins = λ prefix rest has reads. leads.joins prefix rest (from prefix has) reads;
   }
 
   module _ (state : ℕ) where
@@ -52,7 +52,7 @@ module _ (nfa : List State) where
     pub leads_nowhere : (next : ℕ) → slice_get nfa state ≡ Some Fail → LeadsThrough nfa state (λ w. ⊥) next
     leads_nowhere next at = record {
       splits = λ steps word reads. absurd (stops steps word reads);
-      joins = λ front rest no reads. absurd no;
+      joins = λ prefix rest no reads. absurd no;
     }
       where
         stops : (steps : ℕ) (word : List ℕ) → NfaAcceptsIn nfa steps state word → ⊥
@@ -66,24 +66,24 @@ module _ (nfa : List State) where
     leads_read ranges next at = record { splits = splits; joins = joins }
       where
         Split : ℕ → List ℕ → Type 0
-        Split steps word = (front : List ℕ) × (rest : List ℕ) × (fewer : ℕ) × (word ≡ front ++ rest)
-            × IsOneOf ranges front × (fewer ≤ steps) × NfaAcceptsIn nfa fewer next rest
+        Split steps word = (prefix : List ℕ) × (rest : List ℕ) × (fewer : ℕ) × (word ≡ prefix ++ rest)
+            × IsOneOf ranges prefix × (fewer ≤ steps) × NfaAcceptsIn nfa fewer next rest
 
         by : (steps : ℕ) (word : List ℕ) → GoesOn (λ n r. NfaAcceptsIn nfa steps n r) (Some (Read ranges next)) word
-            → (front : List ℕ) × (rest : List ℕ) × (fewer : ℕ) × (word ≡ front ++ rest) × IsOneOf ranges front
+            → (prefix : List ℕ) × (rest : List ℕ) × (fewer : ℕ) × (word ≡ prefix ++ rest) × IsOneOf ranges prefix
             × (fewer ≤ suc steps) × NfaAcceptsIn nfa fewer next rest
         by steps [] reads = absurd reads
         by steps (code ∷ word) (in_ranges, on) = (code ∷ [], word, steps, refl, in_ranges, omega arith, on)
 
         splits : (steps : ℕ) (word : List ℕ) → NfaAcceptsIn nfa steps state word
-            → (front : List ℕ) × (rest : List ℕ) × (fewer : ℕ) × (word ≡ front ++ rest) × IsOneOf ranges front
+            → (prefix : List ℕ) × (rest : List ℕ) × (fewer : ℕ) × (word ≡ prefix ++ rest) × IsOneOf ranges prefix
             × (fewer ≤ steps) × NfaAcceptsIn nfa fewer next rest
         splits zero word reads = absurd reads
         splits (suc steps) word reads =
             by steps word (subst (λ o. GoesOn (λ n r. NfaAcceptsIn nfa steps n r) o word) at reads)
 
-        joins : (front rest : List ℕ) → IsOneOf ranges front → NfaAccepts nfa next rest
-            → NfaAccepts nfa state (front ++ rest)
+        joins : (prefix rest : List ℕ) → IsOneOf ranges prefix → NfaAccepts nfa next rest
+            → NfaAccepts nfa state (prefix ++ rest)
         joins [] rest one reads = absurd one
         joins (code ∷ []) rest one (steps, reads) =
             (suc steps, subst (λ o. GoesOn (λ n r. NfaAcceptsIn nfa steps n r) o (code ∷ rest)) (sym at) (one, reads))
@@ -109,17 +109,17 @@ module _ (nfa : List State) where
       leads_either next L M first second = record { splits = splits; joins = joins }
         where
           splits : (steps : ℕ) (word : List ℕ) → NfaAcceptsIn nfa steps state word
-              → (front : List ℕ) × (rest : List ℕ) × (fewer : ℕ) × (word ≡ front ++ rest) × (L front ⊎ M front)
+              → (prefix : List ℕ) × (rest : List ℕ) × (fewer : ℕ) × (word ≡ prefix ++ rest) × (L prefix ⊎ M prefix)
               × (fewer ≤ steps) × NfaAcceptsIn nfa fewer next rest
           splits zero word reads = absurd reads
           splits (suc steps) word reads = elim (split_reads steps word reads) [
-            | inl goes ↦ (let (front, rest, fewer, is, has, few, on) =
-                first.splits steps word goes in (front, rest, fewer, is, inl has, omega (arith, few), on))
-            | inr goes ↦ (let (front, rest, fewer, is, has, few, on) =
-                second.splits steps word goes in (front, rest, fewer, is, inr has, omega (arith, few), on))
+            | inl goes ↦ (let (prefix, rest, fewer, is, has, few, on) =
+                first.splits steps word goes in (prefix, rest, fewer, is, inl has, omega (arith, few), on))
+            | inr goes ↦ (let (prefix, rest, fewer, is, has, few, on) =
+                second.splits steps word goes in (prefix, rest, fewer, is, inr has, omega (arith, few), on))
           ]
 
-          joins : (front rest : List ℕ) → (L front ⊎ M front) → NfaAccepts nfa next rest
-              → NfaAccepts nfa state (front ++ rest)
-          joins front rest (inl has) reads = split_first (front ++ rest) (first.joins front rest has reads)
-          joins front rest (inr has) reads = split_second (front ++ rest) (second.joins front rest has reads)
+          joins : (prefix rest : List ℕ) → (L prefix ⊎ M prefix) → NfaAccepts nfa next rest
+              → NfaAccepts nfa state (prefix ++ rest)
+          joins prefix rest (inl has) reads = split_first (prefix ++ rest) (first.joins prefix rest has reads)
+          joins prefix rest (inr has) reads = split_second (prefix ++ rest) (second.joins prefix rest has reads)

@@ -13,7 +13,7 @@ use Rattle.helix_compile.proofs.Building.{grows_push}
 module _ (nfa : List State) (split next first : ℕ) (L : List ℕ → Type 0)
     (at : slice_get nfa split ≡ Some (Split next first)) (part : LeadsThrough nfa first L split) where
   Splits : ℕ → List ℕ → Type 0
-  Splits steps word = (front : List ℕ) × (rest : List ℕ) × (fewer : ℕ) × (word ≡ front ++ rest) × AnyNumber L front
+  Splits steps word = (prefix : List ℕ) × (rest : List ℕ) × (fewer : ℕ) × (word ≡ prefix ++ rest) × AnyNumber L prefix
       × (fewer ≤ steps) × NfaAcceptsIn nfa fewer next rest
 
   splits_below : (bound steps : ℕ) (word : List ℕ) → steps ≤ bound → NfaAcceptsIn nfa steps split word
@@ -24,24 +24,24 @@ module _ (nfa : List State) (split next first : ℕ) (L : List ℕ → Type 0)
   splits_below (suc bound) (suc steps) word low reads = elim (split_reads nfa split next first at steps word reads) [
     | inl goes ↦ ([], word, steps, refl, (0, refl), omega arith, goes)
     | inr goes ↦ (
-        let (front, later, fewer, is, has, few, on) = part.splits steps word goes in
+        let (prefix, later, fewer, is, has, few, on) = part.splits steps word goes in
         let (more, rest, least, splits, (count, joined), less, ends) =
         splits_below bound fewer later (omega (arith, low, few)) on in (
-          front ++ more,
+          prefix ++ more,
           rest,
           least,
-          is ∙ (ap (λ l. front ++ l) splits ∙ sym (append_assoc front more rest)),
-          (suc count, (front, more, refl, has, joined)),
+          is ∙ (ap (λ l. prefix ++ l) splits ∙ sym (append_assoc prefix more rest)),
+          (suc count, (prefix, more, refl, has, joined)),
           omega (arith, few, less),
           ends,
         ))
   ]
 
-  joins_times : (count : ℕ) (front rest : List ℕ) → Joined L count front → NfaAccepts nfa next rest
-      → NfaAccepts nfa split (front ++ rest)
-  joins_times zero front rest empty reads =
+  joins_times : (count : ℕ) (prefix rest : List ℕ) → Joined L count prefix → NfaAccepts nfa next rest
+      → NfaAccepts nfa split (prefix ++ rest)
+  joins_times zero prefix rest empty reads =
       subst (λ f. NfaAccepts nfa split (f ++ rest)) (sym empty) (split_first nfa split next first at rest reads)
-  joins_times (suc count) front rest (one, more, is, has, joined) reads =
+  joins_times (suc count) prefix rest (one, more, is, has, joined) reads =
       subst (λ l. NfaAccepts nfa split l) (sym (ap (λ l. l ++ rest) is ∙ append_assoc one more rest))
       (split_second nfa split next first at (one ++ (more ++ rest))
       (part.joins one (more ++ rest) has (joins_times count more rest joined reads)))
@@ -50,7 +50,7 @@ module _ (nfa : List State) (split next first : ℕ) (L : List ℕ → Type 0)
   unfolding Splits
   leads_star = record {
     splits = λ steps word reads. splits_below steps steps word (omega arith) reads;
-    joins = λ front rest (count, joined) reads. joins_times count front rest joined reads;
+    joins = λ prefix rest (count, joined) reads. joins_times count prefix rest joined reads;
   }
 
 -- the split is put where a state was kept for it

@@ -5,17 +5,17 @@ use Rattle.helix_compile.specs.Inner.Repeats.{AnyNumber, UpToNumber, RepeatsMore
 use Rattle.helix_compile.proofs.Leading.{Both}
 
 module _ (L : List ℕ → Type 0) where
-  joined_more : (count others : ℕ) (front rest : List ℕ) → Joined L count front → Joined L others rest
-      → Joined L (count + others) (front ++ rest)
-  joined_more zero others front rest empty joined =
-      subst (λ n. Joined L n (front ++ rest)) zero_more (subst (λ f. Joined L others (f ++ rest)) (sym empty) joined)
+  joined_more : (count others : ℕ) (prefix rest : List ℕ) → Joined L count prefix → Joined L others rest
+      → Joined L (count + others) (prefix ++ rest)
+  joined_more zero others prefix rest empty joined =
+      subst (λ n. Joined L n (prefix ++ rest)) zero_more (subst (λ f. Joined L others (f ++ rest)) (sym empty) joined)
     where
       zero_more : others ≡ zero + others
       zero_more = omega arith
-  joined_more (suc count) others front rest (one, more, is, has, first) joined =
+  joined_more (suc count) others prefix rest (one, more, is, has, first) joined =
       let goes = joined_more count others more rest first joined in
       let next : suc (count + others) ≡ suc count + others = omega arith in
-      subst (λ n. Joined L n (front ++ rest)) next (
+      subst (λ n. Joined L n (prefix ++ rest)) next (
         one,
         more ++ rest,
         ap (λ l. l ++ rest) is
@@ -32,12 +32,12 @@ module _ (L : List ℕ → Type 0) where
   joined_split (suc count) others word joined =
       let next : suc count + others ≡ suc (count + others) = omega arith in
       let (one, more, is, has, rest) = subst (λ n. Joined L n word) next joined in
-      let (front, later, splits, first, second) = joined_split count others more rest in (
-        one ++ front,
+      let (prefix, later, splits, first, second) = joined_split count others more rest in (
+        one ++ prefix,
         later,
         is
-            ∙ (ap (λ l. one ++ l) splits ∙ sym (append_assoc one front later)),
-        (one, front, refl, has, first),
+            ∙ (ap (λ l. one ++ l) splits ∙ sym (append_assoc one prefix later)),
+        (one, prefix, refl, has, first),
         second,
       )
 
@@ -45,18 +45,18 @@ module _ (L : List ℕ → Type 0) where
   pub repeats_is : (least : ℕ) (most : Option ℕ) (word : List ℕ) → Both (Joined L least) (RepeatsMore L least most) word
       ↔ Repeats L least most word
   repeats_is least most word = (
-    (λ (front, rest, is, first, (count, within, second)). (
+    (λ (prefix, rest, is, first, (count, within, second)). (
       least + count,
       omega arith,
       within,
       subst (λ w. Joined L (least + count) w) (sym is)
-          (joined_more least count front rest first second),
+          (joined_more least count prefix rest first second),
     )),
     (λ (count, low, within, joined).
         let is : count ≡ least + (count - least) = omega (arith, low) in
-        let (front, rest, splits, first, second) =
+        let (prefix, rest, splits, first, second) =
         joined_split least (count - least) word (subst (λ n. Joined L n word) is joined) in
-        (front, rest, splits, first, (count - least, subst (λ n. UpTo most n) is within, second))),
+        (prefix, rest, splits, first, (count - least, subst (λ n. UpTo most n) is within, second))),
   )
 
   pub any_is : (least : ℕ) (word : List ℕ) → AnyNumber L word ↔ RepeatsMore L least None word
@@ -84,11 +84,11 @@ module _ (L : List ℕ → Type 0) where
   up_to_more most word = ((λ h. to h), (λ (count, few, joined). from count few joined))
     where
       to : Both L (UpToNumber L most) word ⊎ (word ≡ []) → UpToNumber L (suc most) word
-      to (inl (front, rest, is, has, (count, few, joined))) =
-          (suc count, omega (arith, few), (front, rest, is, has, joined))
+      to (inl (prefix, rest, is, has, (count, few, joined))) =
+          (suc count, omega (arith, few), (prefix, rest, is, has, joined))
       to (inr empty) = (0, omega arith, empty)
 
       from : (count : ℕ) → count ≤ suc most → Joined L count word → Both L (UpToNumber L most) word ⊎ (word ≡ [])
       from zero few empty = inr empty
-      from (suc count) few (front, rest, is, has, joined) =
-          inl (front, rest, is, has, (count, omega (arith, few), joined))
+      from (suc count) few (prefix, rest, is, has, joined) =
+          inl (prefix, rest, is, has, (count, omega (arith, few), joined))

@@ -28,7 +28,7 @@ end_goes false From rest = ((λ h. h), (λ h. h))
 
 -- a word is one of the language and what may follow it
 abbrev pub Followed : (List ℕ → Type 0) → Bool → List ℕ → Type 0
-Followed L free word = (front : List ℕ) × (rest : List ℕ) × (word ≡ front ++ rest) × L front × After free rest
+Followed L free word = (prefix : List ℕ) × (rest : List ℕ) × (word ≡ prefix ++ rest) × L prefix × After free rest
 
 module _ (nfa : List State) (first end : ℕ) (L : List ℕ → Type 0) (leads : LeadsThrough nfa first L end) (free : Bool)
     (at : slice_get nfa end ≡ Some (end_state free)) where
@@ -40,9 +40,9 @@ module _ (nfa : List State) (first end : ℕ) (L : List ℕ → Type 0) (leads :
 
   pub accepts_whole : (word : List ℕ) → NfaAccepts nfa first word ↔ Followed L free word
   accepts_whole word = (
-    (λ (steps, accepts). let (front, rest, fewer, is, has, few, on) =
-        leads.splits steps word accepts in (front, rest, is, has, ends_there fewer rest on)),
-    (λ (front, rest, is, has, after). subst (λ w. NfaAccepts nfa first w) (sym is) (leads.joins front rest has (
+    (λ (steps, accepts). let (prefix, rest, fewer, is, has, few, on) =
+        leads.splits steps word accepts in (prefix, rest, is, has, ends_there fewer rest on)),
+    (λ (prefix, rest, is, has, after). subst (λ w. NfaAccepts nfa first w) (sym is) (leads.joins prefix rest has (
       1,
       subst (λ o. GoesOn (λ n r. NfaAcceptsIn nfa 0 n r) o rest) (sym at)
           ((end_goes free (λ n r. NfaAcceptsIn nfa 0 n r) rest).1 after),
@@ -105,12 +105,12 @@ all_left P xs ys all k d within =
 pub words_answer : (regex : Regex) (containing : Bool) (word : List ℕ) → All IsCharacter word
     → Followed (MatchEnds regex containing) (is_open regex containing) word ↔ Answers regex containing word
 words_answer regex false word all = (
-  (λ (front, rest, is, matches, none). subst (Matches regex.expr)
-      (sym (is ∙ (ap (λ l. front ++ l) none ∙ append-nil front))) matches),
+  (λ (prefix, rest, is, matches, none). subst (Matches regex.expr)
+      (sym (is ∙ (ap (λ l. prefix ++ l) none ∙ append-nil prefix))) matches),
   (λ matches. (word, [], sym (append-nil word), matches, refl)),
 )
 words_answer regex true word all = (
-  (λ (front, rest, is, (before, middle, splits, start, matches), end). record {
+  (λ (prefix, rest, is, (before, middle, splits, start, matches), end). record {
     before = before;
     middle = middle;
     after = rest;

@@ -57,7 +57,7 @@ impl<'a> Machine for Subsets<'a> {
     ghost same_words = { λ subsets one other equal. same_sets subsets.nfa.now one.items other.items equal };
 }
 
-/// The set of states that one state stands for.
+/// The set of states that one state leads to without a character.
 fn start_set(alloc: Global, nfa: &[State], start: u32, seen: &mut Seen) -> Result<Vec<u32>, Memory>
     ensures same { IfOk result (λ set. (word : List ℕ) → SomeAccepts nfa.now set.items word
         ↔ NfaAccepts nfa.now start word) }

@@ -27,9 +27,9 @@ NfaAccepts nfa state word = (steps : ℕ) × NfaAcceptsIn nfa steps state word
 -- what is accepted from one state is a word of a language and then what is accepted from another one, in no more steps
 pub record LeadsThrough (nfa : List State) (from : ℕ) (Language : List ℕ → Type 0) (to : ℕ) : Type 0 where
   pub splits : (steps : ℕ) (word : List ℕ) → NfaAcceptsIn nfa steps from word
-      → (front : List ℕ) × (rest : List ℕ) × (fewer : ℕ) × (word ≡ front ++ rest) × Language front × (fewer ≤ steps)
+      → (prefix : List ℕ) × (rest : List ℕ) × (fewer : ℕ) × (word ≡ prefix ++ rest) × Language prefix × (fewer ≤ steps)
       × NfaAcceptsIn nfa fewer to rest
-  pub joins : (front rest : List ℕ) → Language front → NfaAccepts nfa to rest → NfaAccepts nfa from (front ++ rest)
+  pub joins : (prefix rest : List ℕ) → Language prefix → NfaAccepts nfa to rest → NfaAccepts nfa from (prefix ++ rest)
 
 -- states that are the same from one number up to the end of a list
 abbrev pub AgreeFrom : ℕ → List State → List State → Type 0

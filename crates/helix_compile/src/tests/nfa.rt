@@ -141,7 +141,7 @@ fn states_are_the_sets_that_can_be_reached(rt: HostRuntime) -> Result<(), Fail> 
     for (count, states) in [(0, 3), (1, 5), (3, 17), (14, 32_769)] {
         assert_eq!(rt; a_before(rt.alloc(), count)?.states(), states, "{count}");
     }
-    // a and b are one class, and so is what stands on each side of them.
+    // a and b are one class, and so is what is on each side of them.
     let dfa = automaton(rt.alloc(), &[('e', 0, 0, 0), ('r', A, B, 0)], 1)?;
     assert_eq!(rt; (dfa.states(), dfa.range_ends()), (3, 3));
     Ok(())
