@@ -9,7 +9,8 @@
 //! ```
 //!
 //! What is proved:
-//! - [`Dfa::build`] refuses exactly what isn't well formed (`specs/Shape.antt`): from each state each character leads to
+//! - [`Dfa::build`] refuses exactly what isn't well formed (`specs/Shape.antt`): from each state each character leads
+//! to
 //!   one state, along arcs in order, none of which is without a character.
 //! - [`Dfa::accepts`] and [`Dfa::step`] answer by the arcs (`specs/Automaton.antt`), [`Dfa::range_ends`] with the
 //!   greatest number of arcs that a state has.

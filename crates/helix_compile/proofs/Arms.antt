@@ -56,34 +56,36 @@ module _ (a b : List State) (next : ℕ) where
       (λ h n at. subst (λ e. Builds a b n (Matches e) next) (ap (λ l. Chars l) same ∙ sym is) (builds_read copy n h at))
       added number
 
-  pub seq_arm : {Y : Type 0} (expr : Expr) (parts lent : List Expr) (r : Result ℕ Y) → expr ≡ Seq parts → lent ≡ parts
-      → IfOk r (λ first. Builds a b first (MatchInOrder lent) next)
+  pub seq_arm : {Y : Type 0} (expr : Expr) (parts borrowed : List Expr) (r : Result ℕ Y) → expr ≡ Seq parts
+      → borrowed ≡ parts
+      → IfOk r (λ first. Builds a b first (MatchInOrder borrowed) next)
       → IfOk r (λ first. Builds a b first (Matches expr) next)
-  seq_arm expr parts lent r is same builds =
-      ok_map (λ first. Builds a b first (MatchInOrder lent) next) (λ first. Builds a b first (Matches expr) next) r
+  seq_arm expr parts borrowed r is same builds =
+      ok_map (λ first. Builds a b first (MatchInOrder borrowed) next) (λ first. Builds a b first (Matches expr) next) r
       (λ first h. subst (λ M. Builds a b first M next) (ap MatchInOrder same
       ∙ (sym (Matches-Seq parts) ∙ ap Matches (sym is))) h) builds
 
-  pub alt_arm : {Y : Type 0} (expr : Expr) (parts lent : List Expr) (r : Result ℕ Y) → expr ≡ Alt parts → lent ≡ parts
-      → IfOk r (λ first. Builds a b first (MatchSome lent) next)
+  pub alt_arm : {Y : Type 0} (expr : Expr) (parts borrowed : List Expr) (r : Result ℕ Y) → expr ≡ Alt parts
+      → borrowed ≡ parts
+      → IfOk r (λ first. Builds a b first (MatchSome borrowed) next)
       → IfOk r (λ first. Builds a b first (Matches expr) next)
-  alt_arm expr parts lent r is same builds =
-      ok_map (λ first. Builds a b first (MatchSome lent) next) (λ first. Builds a b first (Matches expr) next) r
-      (λ first h. builds_same a b first next (MatchSome lent) (Matches expr) (λ w. (
+  alt_arm expr parts borrowed r is same builds =
+      ok_map (λ first. Builds a b first (MatchSome borrowed) next) (λ first. Builds a b first (Matches expr) next) r
+      (λ first h. builds_same a b first next (MatchSome borrowed) (Matches expr) (λ w. (
         (λ m. subst (λ e. Matches e w) (sym is)
             (subst (λ T. T) (sym (Matches-Alt parts w)) (subst (λ l. MatchSome l w) same m))),
         (λ m. subst (λ l. MatchSome l w) (sym same)
             (subst (λ T. T) (Matches-Alt parts w) (subst (λ e. Matches e w) is m))),
       )) h) builds
 
-  pub repeat_arm : {Y : Type 0} (expr part lent : Expr) (least : ℕ) (most : Option ℕ) (r : Result ℕ Y)
-      → expr ≡ Repeat part least most → lent ≡ part
-      → IfOk r (λ first. Builds a b first (Repeats (Matches lent) least most) next)
+  pub repeat_arm : {Y : Type 0} (expr part borrowed : Expr) (least : ℕ) (most : Option ℕ) (r : Result ℕ Y)
+      → expr ≡ Repeat part least most → borrowed ≡ part
+      → IfOk r (λ first. Builds a b first (Repeats (Matches borrowed) least most) next)
       → IfOk r (λ first. Builds a b first (Matches expr) next)
-  repeat_arm expr part lent least most r is same builds =
-      ok_map (λ first. Builds a b first (Repeats (Matches lent) least most) next)
+  repeat_arm expr part borrowed least most r is same builds =
+      ok_map (λ first. Builds a b first (Repeats (Matches borrowed) least most) next)
       (λ first. Builds a b first (Matches expr) next) r
-      (λ first h. builds_same a b first next (Repeats (Matches lent) least most) (Matches expr)
+      (λ first h. builds_same a b first next (Repeats (Matches borrowed) least most) (Matches expr)
       (λ w. let law = Matches-Repeat part least most w in (
         (λ m. subst (λ e. Matches e w) (sym is) (law.1 (subst (λ p. Repeats (Matches p) least most w) same m))),
         (λ m. subst (λ p. Repeats (Matches p) least most w) (sym same) (law.0 (subst (λ e. Matches e w) is m))),

@@ -33,20 +33,23 @@ never_joined : (L : List ℕ → Type 0) (count : ℕ) → count ≤ 0 → Quiet
 never_joined L zero few word empty = empty
 never_joined L (suc count) few word joined = absurd (omega (arith, few))
 
-pub seq_quiet : (expr : Expr) (parts lent : List Expr) → expr ≡ Seq parts → lent ≡ parts → Quiet (MatchInOrder lent)
+pub seq_quiet : (expr : Expr) (parts borrowed : List Expr) → expr ≡ Seq parts → borrowed ≡ parts
+    → Quiet (MatchInOrder borrowed)
     → Quiet (Matches expr)
-seq_quiet expr parts lent is same quiet =
+seq_quiet expr parts borrowed is same quiet =
     subst Quiet (ap MatchInOrder same ∙ (sym (Matches-Seq parts) ∙ ap Matches (sym is))) quiet
 
-pub alt_quiet : (expr : Expr) (parts lent : List Expr) → expr ≡ Alt parts → lent ≡ parts → Quiet (MatchSome lent)
+pub alt_quiet : (expr : Expr) (parts borrowed : List Expr) → expr ≡ Alt parts → borrowed ≡ parts
+    → Quiet (MatchSome borrowed)
     → Quiet (Matches expr)
-alt_quiet expr parts lent is same quiet word matches =
+alt_quiet expr parts borrowed is same quiet word matches =
     quiet word (subst (λ l. MatchSome l word) (sym same)
     (subst (λ T. T) (Matches-Alt parts word) (subst (λ e. Matches e word) is matches)))
 
-pub repeat_quiet : (expr part lent : Expr) (least : ℕ) (most : Option ℕ) → expr ≡ Repeat part least most → lent ≡ part
-    → Quiet (Matches lent) → Quiet (Matches expr)
-repeat_quiet expr part lent least most is same quiet word matches =
+pub repeat_quiet : (expr part borrowed : Expr) (least : ℕ) (most : Option ℕ) → expr ≡ Repeat part least most
+    → borrowed ≡ part
+    → Quiet (Matches borrowed) → Quiet (Matches expr)
+repeat_quiet expr part borrowed least most is same quiet word matches =
     let (count, low, high, joined) = (Matches-Repeat part least most word).0 (subst (λ e. Matches e word) is matches) in
     quiet_joined (Matches part) (subst (λ e. Quiet (Matches e)) same quiet) count word joined
 

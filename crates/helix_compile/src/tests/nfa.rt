@@ -7,8 +7,7 @@ use std::alloc::Global;
 use std::test::Fail;
 
 /// A state in a table: `e` accepts the empty word, `a` every word, `s` none, `r` reads a character from the first to
-/// the
-/// last of two codes and then is the state with this number, and `f` is a split.
+/// the last of two codes and then is the state with this number, and `f` is a split.
 type Row = (char, u32, u32, u32);
 
 fn state_of(alloc: Global, row: Row) -> Result<State, Memory> {
