@@ -9,9 +9,6 @@ ghost use Rattle.helix_texts.specs.Texts.{last_digits};
 use helix_base::{Text, is_digit};
 use helix_ladders::{Date, day_number, days_of_month, midnight, power_of_ten};
 
-/// The mark of Coordinated Universal Time.
-const ZULU: u32 = 'Z' as u32;
-
 /// Three numbers with a mark between them.
 #[derive(Clone, Copy)]
 struct Three {
@@ -116,13 +113,13 @@ fn thousandths_of(codes: &[u32]) -> Option<u32>
     }
 }
 
-/// The codes without a `Z` at their end.
+/// The codes without the mark of Coordinated Universal Time, `Z`, at their end.
 fn without_zulu(codes: &[u32]) -> &[u32]
     ensures { TakesZulu codes.now result.now }
 {
     match codes.split_last() {
-        Some((ZULU, prefix)) => prefix,
-        _ => codes,
+        Some((last, prefix)) => { if *last == 'Z' as u32 { prefix } else { codes } }
+        None => codes,
     }
 }
 

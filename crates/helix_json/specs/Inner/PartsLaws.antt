@@ -26,7 +26,8 @@ exponent_no_digit no_exponent h = tt
 exponent_no_digit (power mark sign digits) h = λ d.
     let b : (48 ≤ mark) × (mark ≤ 57) = digit_bounds mark d in elim h.0 [ inl e ↦ omega arith | inr e ↦ omega arith ]
 
-pub tail_no_digit : (fraction : List ℕ) (e : Exponent) → IsExponent e → NoDigit (fraction_text fraction ++ exponent_text e)
+pub tail_no_digit : (fraction : List ℕ) (e : Exponent) → IsExponent e
+    → NoDigit (fraction_text fraction ++ exponent_text e)
 tail_no_digit [] e h = exponent_no_digit e h
 tail_no_digit (c ∷ cs) e h = λ d. let b : (48 ≤ 46) × (46 ≤ 57) = digit_bounds 46 d in omega arith
 

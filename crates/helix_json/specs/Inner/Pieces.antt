@@ -47,7 +47,8 @@ pub record ExponentIs (exponent : Exponent) (lowers : Bool) (digits : List ℕ) 
   pub when_lowered : lowers ≡ true → (power_up exponent ≡ 0) × (power_down exponent ≡ digits_value digits)
 
 -- these are the parts of a number
-pub record Found (parts : NumberParts) (negative : Bool) (whole fraction : List ℕ) (lowers : Bool) (digits : List ℕ) : Type 0
+pub record Found (parts : NumberParts) (negative : Bool) (whole fraction : List ℕ) (lowers : Bool)
+    (digits : List ℕ) : Type 0
   where
     pub negative_is : negative ≡ parts.negative
     pub whole_is : whole ≡ parts.whole
