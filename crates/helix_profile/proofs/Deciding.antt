@@ -1,9 +1,9 @@
 -- What the plain program answers of a constraint, from what it answers of its parts.
-use Rattle.std.proofs.Common.{◌≡◌, List, [], ◌∷◌, ◌⊎◌, inl, inr, ◌↔◌, Option, None, Some, Bool, true, false, not, ◌&&◌, ◌||◌, IsTrue, refl, sym, ap, subst, ⊎_elim}
+use Rattle.std.proofs.Common.{◌≡◌, List, ◌⊎◌, inl, inr, ◌↔◌, Option, Bool, true, false, not, ◌&&◌, ◌||◌, IsTrue, refl, sym, subst, ⊎_elim}
 use Rattle.helix_values.specs.declared.cell.Cell.{Cell}
-use Rattle.helix_profile.specs.Satisfaction.{Satisfies, AllSatisfied, AnySatisfied}
+use Rattle.helix_profile.specs.Satisfaction.{Satisfies}
 use Rattle.helix_profile.specs.declared.constraint.Constraint.{Constraint}
-use Rattle.helix_profile.specs.declared.constraint.Constraint.TheViews.{Not, AllOf, AnyOf, If}
+use Rattle.helix_profile.specs.declared.constraint.Constraint.TheViews.{Not, If}
 use Rattle.helix_profile.specs.SatisfactionLaws.{false_is_false, swap, Satisfies-Not, OtherwiseSatisfied, IfSatisfied, Satisfies-If}
 
 -- The calls of the plain program, each with what it answers.

@@ -1,5 +1,5 @@
 -- A violated profile has the negation in place of one constraint.
-use Rattle.std.proofs.Common.{◌≡◌, ℕ, zero, suc, ◌-◌, ◌≤◌, Some, List, [], ◌∷◌, slice_set, sym, ◌∙◌, ap, subst, arith}
+use Rattle.std.proofs.Common.{◌≡◌, ℕ, zero, suc, ◌-◌, ◌≤◌, Some, List, [], ◌∷◌, slice_set, ◌∙◌, ap, arith}
 use Rattle.std.specs.List.{slice_get}
 use Rattle.helix_profile.specs.Change.{replaced}
 use Rattle.helix_profile.specs.Content.{Content}

@@ -9,7 +9,6 @@ pub mod Fields
 pub mod Forest
 pub mod Validity
 pub mod Violation
-
 -- For the crates above: the width of a profile, which no clause cites yet, and lemmas.
 pub mod Width
 pub mod SatisfactionLaws

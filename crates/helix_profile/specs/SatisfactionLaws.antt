@@ -1,5 +1,5 @@
 -- What satisfies a constraint, by its form, as code sees it: lemmas for this crate and those above.
-use Rattle.std.proofs.Common.{◌≡◌, List, [], ◌∷◌, ◌⊎◌, inl, inr, ◌↔◌, Option, None, Some, Bool, true, false, not, ◌&&◌, ◌||◌, IsTrue, refl, sym, ap, subst, ⊎_elim}
+use Rattle.std.proofs.Common.{◌≡◌, List, [], ◌∷◌, ◌⊎◌, inl, inr, ◌↔◌, Option, None, Some, Bool, true, false, not, IsTrue, refl, sym, ap, subst, ⊎_elim}
 use Rattle.helix_values.specs.declared.cell.Cell.{Cell}
 use Rattle.helix_profile.specs.Satisfaction.{Satisfies, AllSatisfied, AnySatisfied}
 use Rattle.helix_profile.specs.declared.constraint.Constraint.{Constraint}
