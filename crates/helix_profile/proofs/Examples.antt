@@ -20,11 +20,13 @@ above left right = record { left = left; compare = compare.Above; right = right;
 
 -- a choice of two tests has two disjoint options, and one where both fail
 choice_width : width (AnyOf (on 0 ∷ on 1 ∷ [])) true ≡ 2
-unfolding Rattle.helix_profile.specs.declared.constraint.Constraint.TheBlock.hidden-the_row-Constraint-1 denote.Hole.Carrier.hidden
+unfolding Rattle.helix_profile.specs.declared.constraint.Constraint.TheBlock.hidden-the_row-Constraint-1
+    denote.Hole.Carrier.hidden
 choice_width = refl
 
 choice_complement : complement_width (AnyOf (on 0 ∷ on 1 ∷ [])) true ≡ 1
-unfolding Rattle.helix_profile.specs.declared.constraint.Constraint.TheBlock.hidden-the_row-Constraint-1 denote.Hole.Carrier.hidden
+unfolding Rattle.helix_profile.specs.declared.constraint.Constraint.TheBlock.hidden-the_row-Constraint-1
+    denote.Hole.Carrier.hidden
 choice_complement = refl
 
 -- a relation has three: the left end null, the right end null alone, both values
@@ -33,11 +35,13 @@ relation_width = refl
 
 -- a condition counts as any of: both parts, or the negated condition
 condition_width : width (If (on 0) (on 1) None) true ≡ 3
-unfolding Rattle.helix_profile.specs.declared.constraint.Constraint.TheBlock.hidden-the_row-Constraint-0 denote.Hole.Carrier.hidden
+unfolding Rattle.helix_profile.specs.declared.constraint.Constraint.TheBlock.hidden-the_row-Constraint-0
+    denote.Hole.Carrier.hidden
 condition_width = refl
 
 negated_condition_width : width (If (on 0) (on 1) None) false ≡ 1
-unfolding Rattle.helix_profile.specs.declared.constraint.Constraint.TheBlock.hidden-the_row-Constraint-0 denote.Hole.Carrier.hidden
+unfolding Rattle.helix_profile.specs.declared.constraint.Constraint.TheBlock.hidden-the_row-Constraint-0
+    denote.Hole.Carrier.hidden
 negated_condition_width = refl
 
 -- three relations round three fields are a cycle
@@ -59,9 +63,11 @@ choice one other = AnyOf (on one ∷ on other ∷ [])
 
 -- two choices of different fields are two groups, and a relation between them makes them one
 apart : widest_group (choice 0 1 ∷ choice 2 3 ∷ []) 4 ≡ 2
-unfolding Rattle.helix_profile.specs.declared.constraint.Constraint.TheBlock.hidden-the_row-Constraint-1 denote.Hole.Carrier.hidden widest_group is_chained
+unfolding Rattle.helix_profile.specs.declared.constraint.Constraint.TheBlock.hidden-the_row-Constraint-1
+    denote.Hole.Carrier.hidden widest_group is_chained
 apart = refl
 
 joined : widest_group (choice 0 1 ∷ Related (above 1 2) ∷ choice 2 3 ∷ []) 4 ≡ 12
-unfolding Rattle.helix_profile.specs.declared.constraint.Constraint.TheBlock.hidden-the_row-Constraint-1 denote.Hole.Carrier.hidden widest_group is_chained
+unfolding Rattle.helix_profile.specs.declared.constraint.Constraint.TheBlock.hidden-the_row-Constraint-1
+    denote.Hole.Carrier.hidden widest_group is_chained
 joined = refl

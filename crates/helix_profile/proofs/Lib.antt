@@ -1,6 +1,6 @@
-pub mod Ascending
 pub mod Examples
-pub mod Fronts
 pub mod OneField
 pub mod Powers
-pub mod Satisfying
+pub mod Deciding
+pub mod Keeping
+pub mod Violating

@@ -21,7 +21,9 @@ ascii_a : IsAscii (97 ∷ [])
 ascii_a zero = omega arith
 ascii_a (suc later) = omega arith
 
-pub one_field_is_valid : (fields before : List Field) (constraints : List Constraint) (field : Field) → fields ≡ before ++ (field ∷ []) → before ≡ [] → field.name ≡ chars (97 ∷ []) → constraints ≡ [] → IsValidProfile (record { fields = fields; constraints = constraints })
+pub one_field_is_valid : (fields before : List Field) (constraints : List Constraint) (field : Field)
+    → fields ≡ before ++ (field ∷ []) → before ≡ [] → field.name ≡ chars (97 ∷ []) → constraints ≡ []
+    → IsValidProfile (record { fields = fields; constraints = constraints })
 one_field_is_valid fields before constraints field are fresh is none =
     subst (λ fs. IsValidProfile (record { fields = fs; constraints = constraints })) (sym are)
     (subst (λ bs. IsValidProfile (record { fields = bs ++ (field ∷ []); constraints = constraints })) (sym fresh)

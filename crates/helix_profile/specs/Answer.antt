@@ -1,4 +1,4 @@
--- The answer list of a profile, and its pieces above a row.
+-- The answer list of a set of rows, such as the good rows of a profile, and its pieces above a row.
 use Rattle.std.specs.Prelude.{◌≡◌, List, [], ◌∷◌, Option, None, Some, ◌⊎◌, ◌↔◌}
 use Rattle.std.specs.List.{AllByRecursion}
 use Rattle.helix_values.specs.Order.{RowLess}
@@ -27,19 +27,31 @@ ReachesTo [] row = ⊥
 ReachesTo (last ∷ []) row = ¬ RowLess last row
 ReachesTo (first ∷ second ∷ rows) row = ReachesTo (second ∷ rows) row
 
--- the answer list of a profile: exactly the good rows, in strictly ascending order
-pub record IsAnswer (profile : Content) (rows : List (List Cell)) : Type 0 where
+-- the answer list of a set of rows: exactly those rows, in strictly ascending order
+pub record IsAnswerOf (Good : List Cell → Type 0) (rows : List (List Cell)) : Type 0 where
   pub ascending : IsAscending rows
-  pub members : (row : List Cell) → IsAmong rows row ↔ IsGood profile row
+  pub members : (row : List Cell) → IsAmong rows row ↔ Good row
 
--- the rest above a row or nothing: exactly the good rows above it, in strictly ascending order
-pub record IsRest (profile : Content) (start : Option (List Cell)) (rows : List (List Cell)) : Type 0 where
+-- its rest above a row or nothing: exactly the rows of the set above it, in strictly ascending order
+pub record IsRestOf (Good : List Cell → Type 0) (start : Option (List Cell)) (rows : List (List Cell)) : Type 0 where
   pub ascending : IsAscending rows
-  pub members : (row : List Cell) → IsAmong rows row ↔ (IsGood profile row × IsAbove start row)
+  pub members : (row : List Cell) → IsAmong rows row ↔ (Good row × IsAbove start row)
 
--- A front above a row or nothing: good rows above it in strictly ascending order, of which none is left out before
--- the last. So a front is the beginning of the rest, and the empty list is one.
-pub record IsFront (profile : Content) (start : Option (List Cell)) (rows : List (List Cell)) : Type 0 where
+-- A prefix of that rest: rows of the set above the start in strictly ascending order, of which none is left out
+-- before the last. So the empty list is one.
+pub record IsPrefixOf (Good : List Cell → Type 0) (start : Option (List Cell)) (rows : List (List Cell)) : Type 0 where
   pub ascending : IsAscending rows
-  pub good : (row : List Cell) → IsAmong rows row → IsGood profile row × IsAbove start row
-  pub none_left_out : (row : List Cell) → IsGood profile row → IsAbove start row → ReachesTo rows row → IsAmong rows row
+  pub good : (row : List Cell) → IsAmong rows row → Good row × IsAbove start row
+  pub none_left_out : (row : List Cell) → Good row → IsAbove start row → ReachesTo rows row → IsAmong rows row
+
+-- the answer list of a profile: that of its good rows
+abbrev pub IsAnswer : Content → List (List Cell) → Type 0
+IsAnswer profile rows = IsAnswerOf (IsGood profile) rows
+
+-- the rest of its good rows above a row or nothing
+abbrev pub IsRest : Content → Option (List Cell) → List (List Cell) → Type 0
+IsRest profile start rows = IsRestOf (IsGood profile) start rows
+
+-- a prefix of that rest
+abbrev pub IsPrefix : Content → Option (List Cell) → List (List Cell) → Type 0
+IsPrefix profile start rows = IsPrefixOf (IsGood profile) start rows

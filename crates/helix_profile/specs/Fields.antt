@@ -1,4 +1,5 @@
--- Which fields a constraint names, and what relations it has, in the order in which they are written.
+-- Which fields a constraint names, and what relations it has, as often as it does: those of an `if` by its condition,
+-- its `then` and its `else`, in whatever order a text gives them.
 use Rattle.std.specs.Prelude.{ℕ, List, [], ◌∷◌, ◌++◌}
 use Rattle.helix_profile.specs.declared.constraint.Constraint.{Constraint, Atom, Related, Not', AllOf', AnyOf', If', Row_of-Constraint, end_of-Constraint, more_of-Constraint, Held-Constraint-If-2, None', Some'}
 use Rattle.helix_profile.specs.declared.relation.Relation.{Relation}
@@ -11,7 +12,8 @@ abbrev mutual
   fields_of (Not' pointer negated) = fields_of_parts negated
   fields_of (AllOf' shape parts) = fields_of_parts parts
   fields_of (AnyOf' shape parts) = fields_of_parts parts
-  fields_of (If' pointer condition other_pointer consequent otherwise) = fields_of_parts condition ++ (fields_of_parts consequent ++ fields_of_else otherwise)
+  fields_of (If' pointer condition other_pointer consequent otherwise) =
+      fields_of_parts condition ++ (fields_of_parts consequent ++ fields_of_else otherwise)
 
   pub fields_of_parts : {m : _} → Row_of-Constraint m → List ℕ
   fields_of_parts end_of-Constraint = []
@@ -22,7 +24,7 @@ abbrev mutual
   fields_of_else (Some' pointer other) = fields_of_parts other
 
 abbrev mutual
-  -- the relations of a constraint, whatever branch they stand in
+  -- the relations of a constraint, in whatever branch they are
   pub relations_of : Constraint → List Relation
   relations_of (Atom atom) = []
   relations_of (Related relation) = relation ∷ []

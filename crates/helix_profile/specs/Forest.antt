@@ -7,14 +7,15 @@ use Rattle.helix_profile.specs.declared.relation.Relation.{Relation}
 abbrev pub AreJoined : List Relation → ℕ → ℕ → Type 0
 AreJoined [] f g = ⊥
 AreJoined (relation ∷ relations) f g =
-    ((relation.left ≡ f) × (relation.right ≡ g)) ⊎ (((relation.left ≡ g) × (relation.right ≡ f)) ⊎ AreJoined relations f g)
+    ((relation.left ≡ f) × (relation.right ≡ g))
+    ⊎ (((relation.left ≡ g) × (relation.right ≡ f)) ⊎ AreJoined relations f g)
 
 -- each field is joined with the next, and the last with this one
 abbrev pub IsPathTo : List Relation → ℕ → ℕ → List ℕ → Type 0
 IsPathTo relations last field [] = AreJoined relations field last
 IsPathTo relations last field (next ∷ fields) = AreJoined relations field next × IsPathTo relations last next fields
 
--- no field stands twice
+-- no field comes twice
 abbrev pub AreDifferent : List ℕ → Type 0
 AreDifferent [] = Unit {0}
 AreDifferent (field ∷ fields) = AllByRecursion (λ other. field ≢ other) fields × AreDifferent fields

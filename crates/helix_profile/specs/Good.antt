@@ -19,7 +19,8 @@ IsShortIfText other = Unit {0}
 -- a row of the right shape: for each field null or a value of its class, which needn't be in its universe
 abbrev pub HasShape : List Field → List Cell → Type 0
 HasShape [] [] = Unit {0}
-HasShape (field ∷ fields) (cell ∷ row) = IsNullOr (class_of_kind field.kind) cell × IsShortIfText cell × HasShape fields row
+HasShape (field ∷ fields) (cell ∷ row) = IsNullOr (class_of_kind field.kind) cell × IsShortIfText cell
+    × HasShape fields row
 HasShape fields row = ⊥
 
 -- a cell of a field: a value of its universe, or null where the field is nullable

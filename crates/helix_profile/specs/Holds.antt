@@ -48,7 +48,7 @@ Holds (test.Below bound) value = CellsCompare compare.Below value bound
 Holds (test.AtMost bound) value = CellsCompare compare.AtMost value bound
 Holds (test.OnGrid level) value = IsOnGrid level value
 
--- how a number compares with another one and so many units; no other offset shifts a number
+-- how a number compares with another one, shifted by units; no other offset shifts a number
 abbrev pub NumbersRelated : Compare → Offset → ℤ → ℤ → Type 0
 NumbersRelated how (offset.Plain units) x y = Compares how x (shifted (offset.Plain units) y)
 NumbersRelated how other x y = ⊥

@@ -41,7 +41,8 @@ abbrev mutual
   -- The parts of a `Not` and of an `If` are rows of one constraint each.
   pub Satisfies : Constraint → List Cell → Bool → Type 0
   Satisfies (Atom atom) row sign = TestSatisfied atom.test (cell_at row atom.field) sign
-  Satisfies (Related relation) row sign = RelationSatisfied relation (cell_at row relation.left) (cell_at row relation.right) sign
+  Satisfies (Related relation) row sign =
+      RelationSatisfied relation (cell_at row relation.left) (cell_at row relation.right) sign
   Satisfies (Not' pointer negated) row true = EachSatisfied negated row false
   Satisfies (Not' pointer negated) row false = EachSatisfied negated row true
   Satisfies (AllOf' shape parts) row true = EachSatisfied parts row true
@@ -49,7 +50,8 @@ abbrev mutual
   Satisfies (AnyOf' shape parts) row true = SomeSatisfied parts row true
   Satisfies (AnyOf' shape parts) row false = EachSatisfied parts row false
   Satisfies (If' pointer condition other_pointer consequent otherwise) row sign =
-      (EachSatisfied condition row true × EachSatisfied consequent row sign) ⊎ (EachSatisfied condition row false × ElseSatisfied otherwise row sign)
+      (EachSatisfied condition row true × EachSatisfied consequent row sign)
+      ⊎ (EachSatisfied condition row false × ElseSatisfied otherwise row sign)
 
   -- all parts are satisfied, each with the sign
   pub EachSatisfied : {m : _} → Row_of-Constraint m → List Cell → Bool → Type 0

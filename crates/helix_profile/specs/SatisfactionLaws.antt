@@ -1,40 +1,50 @@
--- What satisfies a constraint, said of its parts, and what the plain program answers of them.
-use Rattle.std.proofs.Common.{◌≡◌, List, [], ◌∷◌, ◌⊎◌, inl, inr, ◌↔◌, Option, None, Some, Bool, true, false, not, ◌&&◌, ◌||◌, IsTrue, refl, sym, ap, subst, ⊎_elim}
+-- What satisfies a constraint, by its form, as code sees it: lemmas for this crate and those above.
+use Rattle.std.proofs.Common.{◌≡◌, List, [], ◌∷◌, ◌⊎◌, inl, inr, ◌↔◌, Option, None, Some, Bool, true, false, not, IsTrue, refl, sym, ap, subst, ⊎_elim}
 use Rattle.helix_values.specs.declared.cell.Cell.{Cell}
 use Rattle.helix_profile.specs.Satisfaction.{Satisfies, AllSatisfied, AnySatisfied}
 use Rattle.helix_profile.specs.declared.constraint.Constraint.{Constraint}
 use Rattle.helix_profile.specs.declared.constraint.Constraint.TheViews.{Not, AllOf, AnyOf, If}
 
-false_is_false : IsTrue false → ⊥
+pub false_is_false : IsTrue false → ⊥
 false_is_false e = cc e
 
-abbrev swap : {A B C : Type 0} → (A ↔ B) → (B ↔ C) → A ↔ C
+abbrev pub swap : {A B C : Type 0} → (A ↔ B) → (B ↔ C) → A ↔ C
 swap one two = ((λ a. two.0 (one.0 a)), (λ c. one.1 (two.1 c)))
 
 -- a `not` is its part with the other sign
-pub Satisfies-Not : (part : Constraint) (row : List Cell) (sign : Bool) → Satisfies part row (not sign) ↔ Satisfies (Not part) row sign
-unfolding Rattle.helix_profile.specs.declared.constraint.Constraint.TheBlock.hidden-the_row-Constraint-0 denote.Hole.Carrier.hidden
+pub Satisfies-Not : (part : Constraint) (row : List Cell) (sign : Bool)
+    → Satisfies part row (not sign) ↔ Satisfies (Not part) row sign
+unfolding Rattle.helix_profile.specs.declared.constraint.Constraint.TheBlock.hidden-the_row-Constraint-0
+    denote.Hole.Carrier.hidden
 Satisfies-Not part row true = ((λ s. (s, tt)), (λ s. s.0))
 Satisfies-Not part row false = ((λ s. (s, tt)), (λ s. s.0))
 
 -- the parts of an `allOf` and of an `anyOf` are those of a list
-pub AllOf-plus : (parts : List Constraint) (row : List Cell) → AllSatisfied parts row true ≡ Satisfies (AllOf parts) row true
-unfolding Rattle.helix_profile.specs.declared.constraint.Constraint.TheBlock.hidden-the_row-Constraint-1 denote.Hole.Carrier.hidden
+pub AllOf-plus : (parts : List Constraint) (row : List Cell)
+    → AllSatisfied parts row true ≡ Satisfies (AllOf parts) row true
+unfolding Rattle.helix_profile.specs.declared.constraint.Constraint.TheBlock.hidden-the_row-Constraint-1
+    denote.Hole.Carrier.hidden
 AllOf-plus [] row = refl
 AllOf-plus (part ∷ parts) row = ap (λ T. Satisfies part row true × T) (AllOf-plus parts row)
 
-pub AllOf-minus : (parts : List Constraint) (row : List Cell) → AnySatisfied parts row false ≡ Satisfies (AllOf parts) row false
-unfolding Rattle.helix_profile.specs.declared.constraint.Constraint.TheBlock.hidden-the_row-Constraint-1 denote.Hole.Carrier.hidden
+pub AllOf-minus : (parts : List Constraint) (row : List Cell)
+    → AnySatisfied parts row false ≡ Satisfies (AllOf parts) row false
+unfolding Rattle.helix_profile.specs.declared.constraint.Constraint.TheBlock.hidden-the_row-Constraint-1
+    denote.Hole.Carrier.hidden
 AllOf-minus [] row = refl
 AllOf-minus (part ∷ parts) row = ap (λ T. Satisfies part row false ⊎ T) (AllOf-minus parts row)
 
-pub AnyOf-plus : (parts : List Constraint) (row : List Cell) → AnySatisfied parts row true ≡ Satisfies (AnyOf parts) row true
-unfolding Rattle.helix_profile.specs.declared.constraint.Constraint.TheBlock.hidden-the_row-Constraint-1 denote.Hole.Carrier.hidden
+pub AnyOf-plus : (parts : List Constraint) (row : List Cell)
+    → AnySatisfied parts row true ≡ Satisfies (AnyOf parts) row true
+unfolding Rattle.helix_profile.specs.declared.constraint.Constraint.TheBlock.hidden-the_row-Constraint-1
+    denote.Hole.Carrier.hidden
 AnyOf-plus [] row = refl
 AnyOf-plus (part ∷ parts) row = ap (λ T. Satisfies part row true ⊎ T) (AnyOf-plus parts row)
 
-pub AnyOf-minus : (parts : List Constraint) (row : List Cell) → AllSatisfied parts row false ≡ Satisfies (AnyOf parts) row false
-unfolding Rattle.helix_profile.specs.declared.constraint.Constraint.TheBlock.hidden-the_row-Constraint-1 denote.Hole.Carrier.hidden
+pub AnyOf-minus : (parts : List Constraint) (row : List Cell)
+    → AllSatisfied parts row false ≡ Satisfies (AnyOf parts) row false
+unfolding Rattle.helix_profile.specs.declared.constraint.Constraint.TheBlock.hidden-the_row-Constraint-1
+    denote.Hole.Carrier.hidden
 AnyOf-minus [] row = refl
 AnyOf-minus (part ∷ parts) row = ap (λ T. Satisfies part row false × T) (AnyOf-minus parts row)
 
@@ -45,10 +55,13 @@ OtherwiseSatisfied (Some other) row sign = Satisfies other row sign
 
 abbrev pub IfSatisfied : Constraint → Constraint → Option Constraint → List Cell → Bool → Type 0
 IfSatisfied condition consequent otherwise row sign =
-    (Satisfies condition row true × Satisfies consequent row sign) ⊎ (Satisfies condition row false × OtherwiseSatisfied otherwise row sign)
+    (Satisfies condition row true × Satisfies consequent row sign)
+    ⊎ (Satisfies condition row false × OtherwiseSatisfied otherwise row sign)
 
-pub Satisfies-If : (condition consequent : Constraint) (otherwise : Option Constraint) (row : List Cell) (sign : Bool) → IfSatisfied condition consequent otherwise row sign ↔ Satisfies (If condition consequent otherwise) row sign
-unfolding Rattle.helix_profile.specs.declared.constraint.Constraint.TheBlock.hidden-the_row-Constraint-0 denote.Hole.Carrier.hidden
+pub Satisfies-If : (condition consequent : Constraint) (otherwise : Option Constraint) (row : List Cell) (sign : Bool)
+    → IfSatisfied condition consequent otherwise row sign ↔ Satisfies (If condition consequent otherwise) row sign
+unfolding Rattle.helix_profile.specs.declared.constraint.Constraint.TheBlock.hidden-the_row-Constraint-0
+    denote.Hole.Carrier.hidden
 Satisfies-If condition consequent None row true = (
   ⊎_elim (λ both. inl ((both.0, tt), (both.1, tt))) (λ both. inr ((both.0, tt), tt)),
   ⊎_elim (λ both. inl (both.0.0, both.1.0)) (λ both. inr (both.0.0, refl)),
@@ -62,43 +75,48 @@ Satisfies-If condition consequent (Some other) row sign = (
   ⊎_elim (λ both. inl (both.0.0, both.1.0)) (λ both. inr (both.0.0, both.1.0)),
 )
 
--- The calls of the plain program, each with what it answers.
+-- the same, a form and a sign at a time
+abbrev same : {A B : Type 0} → A ≡ B → B ↔ A
+same e = ((λ b. subst (λ T. T) (sym e) b), (λ a. subst (λ T. T) e a))
 
-pub not_decides : (b : Bool) (constraint part got : Constraint) (row : List Cell) (sign : Bool) → constraint ≡ Not part → got ≡ part → (IsTrue b ↔ Satisfies got row (not sign)) → IsTrue b ↔ Satisfies constraint row sign
-not_decides b constraint part got row sign is same decides =
-    let here : IsTrue b ↔ Satisfies part row (not sign) = subst (λ c. IsTrue b ↔ Satisfies c row (not sign)) same decides in
-    subst (λ c. IsTrue b ↔ Satisfies c row sign) (sym is) (swap here (Satisfies-Not part row sign))
+pub all_of_true : (parts : List Constraint) (row : List Cell)
+    → Satisfies (AllOf parts) row true ↔ AllSatisfied parts row true
+all_of_true parts row = same (AllOf-plus parts row)
 
--- a list of parts under one of the four signs
-pub parts_decide : (b : Bool) (constraint : Constraint) (Made : List Constraint → Constraint) (Parts : List Constraint → Type 0) (parts slice : List Constraint) (row : List Cell) (sign known : Bool) → ((ps : List Constraint) → Parts ps ≡ Satisfies (Made ps) row known) → constraint ≡ Made parts → slice ≡ parts → sign ≡ known → (IsTrue b ↔ Parts slice) → IsTrue b ↔ Satisfies constraint row sign
-parts_decide b constraint Made Parts parts slice row sign known law is same sign_is decides =
-    let here : IsTrue b ↔ Parts parts = subst (λ ps. IsTrue b ↔ Parts ps) same decides in
-    let there : IsTrue b ↔ Satisfies (Made parts) row known = subst (λ T. IsTrue b ↔ T) (law parts) here in
-    let signed : IsTrue b ↔ Satisfies (Made parts) row sign = subst (λ s. IsTrue b ↔ Satisfies (Made parts) row s) (sym sign_is) there in
-    subst (λ c. IsTrue b ↔ Satisfies c row sign) (sym is) signed
+pub all_of_false : (parts : List Constraint) (row : List Cell)
+    → Satisfies (AllOf parts) row false ↔ AnySatisfied parts row false
+all_of_false parts row = same (AllOf-minus parts row)
 
--- two pairs of answers
-either : (a b c d : Bool) (A B C D : Type 0) → (IsTrue a ↔ A) → (IsTrue b ↔ B) → (IsTrue c ↔ C) → (IsTrue d ↔ D) → IsTrue ((a && b) || (c && d)) ↔ ((A × B) ⊎ (C × D))
-either true true c d A B C D is_a is_b is_c is_d = ((λ t. inl (is_a.0 refl, is_b.0 refl)), (λ s. refl))
-either true false true d A B C D is_a is_b is_c is_d = ((λ t. inr (is_c.0 refl, is_d.0 t)), ⊎_elim (λ s. absurd (false_is_false (is_b.1 s.1))) (λ s. is_d.1 s.1))
-either true false false d A B C D is_a is_b is_c is_d = ((λ t. absurd (false_is_false t)), ⊎_elim (λ s. is_b.1 s.1) (λ s. is_c.1 s.0))
-either false b true d A B C D is_a is_b is_c is_d = ((λ t. inr (is_c.0 refl, is_d.0 t)), ⊎_elim (λ s. absurd (false_is_false (is_a.1 s.0))) (λ s. is_d.1 s.1))
-either false b false d A B C D is_a is_b is_c is_d = ((λ t. absurd (false_is_false t)), ⊎_elim (λ s. is_a.1 s.0) (λ s. is_c.1 s.0))
+pub any_of_true : (parts : List Constraint) (row : List Cell)
+    → Satisfies (AnyOf parts) row true ↔ AnySatisfied parts row true
+any_of_true parts row = same (AnyOf-plus parts row)
 
-module _ (answer met unmet consequent_met otherwise_met : Bool) (constraint condition consequent : Constraint) (otherwise : Option Constraint) (row : List Cell) (sign : Bool)
-    (is : constraint ≡ If condition consequent otherwise) (answer_is : answer ≡ ((met && consequent_met) || (unmet && otherwise_met)))
-    (is_met : IsTrue met ↔ Satisfies condition row true) (is_unmet : IsTrue unmet ↔ Satisfies condition row false)
-    (is_consequent : IsTrue consequent_met ↔ Satisfies consequent row sign) (is_otherwise : IsTrue otherwise_met ↔ OtherwiseSatisfied otherwise row sign) where
-  pub if_decides : IsTrue answer ↔ Satisfies constraint row sign
-  if_decides =
-      let parts : IsTrue ((met && consequent_met) || (unmet && otherwise_met)) ↔ IfSatisfied condition consequent otherwise row sign =
-      either met consequent_met unmet otherwise_met _ _ _ _ is_met is_consequent is_unmet is_otherwise in
-      let whole : IsTrue ((met && consequent_met) || (unmet && otherwise_met)) ↔ Satisfies (If condition consequent otherwise) row sign = swap parts (Satisfies-If condition consequent otherwise row sign) in
-      subst (λ c. IsTrue answer ↔ Satisfies c row sign) (sym is) (subst (λ b. IsTrue b ↔ Satisfies (If condition consequent otherwise) row sign) (sym answer_is) whole)
+pub any_of_false : (parts : List Constraint) (row : List Cell)
+    → Satisfies (AnyOf parts) row false ↔ AllSatisfied parts row false
+any_of_false parts row = same (AnyOf-minus parts row)
 
-pub itself : (sign : Bool) → IsTrue sign ↔ IsTrue sign
-itself sign = ((λ t. t), (λ t. t))
+pub if_true : (condition consequent : Constraint) (row : List Cell)
+    → Satisfies (If condition consequent None) row true
+    ↔ ((Satisfies condition row true × Satisfies consequent row true) ⊎ Satisfies condition row false)
+if_true condition consequent row = (
+  (λ s. ⊎_elim (λ both. inl both) (λ both. inr both.0) ((Satisfies-If condition consequent None row true).1 s)),
+  (λ s. (Satisfies-If condition consequent None row true).0 (⊎_elim (λ both. inl both) (λ unmet. inr (unmet, refl)) s)),
+)
 
--- the same of a part that was lent
-pub of_part : (b : Bool) (got part : Constraint) (row : List Cell) (sign : Bool) → got ≡ part → (IsTrue b ↔ Satisfies got row sign) → IsTrue b ↔ Satisfies part row sign
-of_part b got part row sign same decides = subst (λ c. IsTrue b ↔ Satisfies c row sign) same decides
+pub if_false : (condition consequent : Constraint) (row : List Cell)
+    → Satisfies (If condition consequent None) row false
+    ↔ (Satisfies condition row true × Satisfies consequent row false)
+if_false condition consequent row = (
+  (λ s. ⊎_elim (λ both. both) (λ both. absurd (false_is_false both.1))
+      ((Satisfies-If condition consequent None row false).1 s)),
+  (λ both. (Satisfies-If condition consequent None row false).0 (inl both)),
+)
+
+pub if_else : (condition consequent other : Constraint) (row : List Cell) (sign : Bool)
+    → Satisfies (If condition consequent (Some other)) row sign
+    ↔ ((Satisfies condition row true × Satisfies consequent row sign)
+    ⊎ (Satisfies condition row false × Satisfies other row sign))
+if_else condition consequent other row sign = (
+  (Satisfies-If condition consequent (Some other) row sign).1,
+  (Satisfies-If condition consequent (Some other) row sign).0,
+)

@@ -25,10 +25,11 @@ pub record IsName (name : List ℕ) : Type 0 where
   pub short : length name ≤ 200
   pub printable : AllByRecursion (λ code. (32 ≤ code) × (code ≢ 127)) name
 
--- no name stands twice
+-- no name comes twice
 abbrev pub HaveDifferentNames : List Field → Type 0
 HaveDifferentNames [] = Unit {0}
-HaveDifferentNames (field ∷ fields) = AllByRecursion (λ other. field.name ≢ other.name) fields × HaveDifferentNames fields
+HaveDifferentNames (field ∷ fields) = AllByRecursion (λ other. field.name ≢ other.name) fields
+    × HaveDifferentNames fields
 
 -- a bound: a number with at most 15 places, on an integer field too, or a moment, on a date field too
 abbrev pub IsBound : Class → Cell → Type 0
@@ -91,7 +92,8 @@ abbrev mutual
   pub IsConstraintFor : List Field → Constraint → Type 0
   IsConstraintFor fields (Atom atom) = FieldWith fields atom.field (λ field. IsTestFor field.kind atom.test)
   IsConstraintFor fields (Related relation) =
-      FieldWith fields relation.left (λ left. FieldWith fields relation.right (λ right. IsRelationFor left right relation))
+      FieldWith fields relation.left (λ left. FieldWith fields relation.right
+      (λ right. IsRelationFor left right relation))
   IsConstraintFor fields (Not' pointer negated) = ArePartsFor fields negated
   IsConstraintFor fields (AllOf' shape parts) = IsSomePart parts × ArePartsFor fields parts
   IsConstraintFor fields (AnyOf' shape parts) = IsSomePart parts × ArePartsFor fields parts

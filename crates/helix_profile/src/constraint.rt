@@ -4,7 +4,7 @@ ghost use Rattle.std.specs.Prelude.{◌≡◌, IfOk};
 
 use crate::relation::Relation;
 use crate::test::Atom;
-use helix_base::Memory;
+use helix_base::{List, Memory, TryCopy};
 use sqlite_items::{Boxed, Items};
 use std::alloc::Global;
 
@@ -16,14 +16,17 @@ pub enum Constraint {
     /// A comparison of two fields.
     Related(Relation),
     Not(Boxed<Constraint>),
-    AllOf(Items<Constraint>),
-    AnyOf(Items<Constraint>),
+    AllOf(Parts),
+    AnyOf(Parts),
     /// If, then and, where it is given, else.
     If(Boxed<Constraint>, Boxed<Constraint>, Option<Boxed<Constraint>>),
 }
 
-/// Constraints, that contracts see as their list.
-pub type Constraints = Items<Constraint>;
+/// The parts of a constraint, in their order.
+pub type Parts = Items<Constraint>;
+
+/// The constraints of a profile, in their order.
+pub type Constraints = List<Constraint>;
 
 impl Constraint {
     #[cycle(copy)]
@@ -35,10 +38,10 @@ impl Constraint {
             Constraint::Related(relation) => Ok(Constraint::Related(*relation)),
             Constraint::Not(negated) => Ok(Constraint::Not(copy_boxed(alloc, negated)?)),
             Constraint::AllOf(parts) => {
-                Ok(Constraint::AllOf(copy_constraints(alloc, parts.as_slice())?))
+                Ok(Constraint::AllOf(copy_parts(alloc, parts.as_slice())?))
             }
             Constraint::AnyOf(parts) => {
-                Ok(Constraint::AnyOf(copy_constraints(alloc, parts.as_slice())?))
+                Ok(Constraint::AnyOf(copy_parts(alloc, parts.as_slice())?))
             }
             Constraint::If(condition, then, otherwise) => {
                 let condition = copy_boxed(alloc, condition)?;
@@ -61,14 +64,19 @@ fn copy_boxed(alloc: Global, constraint: &Boxed<Constraint>) -> Result<Boxed<Con
     Ok(Boxed::new(alloc, constraint.get().copy(alloc)?)?)
 }
 
-/// Equal constraints, as a list.
 #[cycle(copy)]
-pub fn copy_constraints(alloc: Global, constraints: &[Constraint]) -> Result<Constraints, Memory>
+fn copy_parts(alloc: Global, constraints: &[Constraint]) -> Result<Parts, Memory>
     ensures { IfOk result (λ copy. copy ≡ constraints.now) }
 {
-    let mut all = Items::new(alloc);
+    let mut all = Parts::new(alloc);
     for constraint in constraints {
         all.push(constraint.copy(alloc)?)?;
     }
     Ok(all)
+}
+
+impl TryCopy for Constraint {
+    fn try_copy(&self, alloc: Global) -> Result<Constraint, Memory> {
+        self.copy(alloc)
+    }
 }

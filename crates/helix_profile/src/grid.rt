@@ -8,7 +8,7 @@ ghost use Rattle.helix_values.specs.View.{cell_of};
 use helix_values::{CellRef, is_on_grid};
 
 /// Whether a number or a moment is on the grid of a level. A number's ladder ends at 15, and the
-/// powers of ten go on; a moment's ends at 6, and what is above it stands for years.
+/// powers of ten go on; a moment's ends at 6, and every level above it means years.
 pub fn is_on_level(level: u32, value: CellRef<'_>) -> bool
     ensures { IsTrue result ↔ IsOnGrid level (cell_of value.entry) }
 {
@@ -37,16 +37,8 @@ fn is_multiple(level: u32, units: i128) -> bool
 {
     let size = units.unsigned_abs();
     if level < 39 {
-        size % power_of_ten(level) == 0
+        size % 10_u128.pow(level) == 0
     } else {
         size == 0
     }
-}
-
-fn power_of_ten(level: u32) -> u128
-    requires { level < 39 }
-    ensures value { result ≡ 10 ^ level }
-    ensures positive { 1 ≤ result }
-{
-    10_u128.pow(level)
 }

@@ -1,10 +1,15 @@
 //! A profile.
 
-ghost use Rattle.std.specs.Prelude.{◌≡◌};
+ghost use Rattle.std.specs.Prelude.{◌≡◌, ◌≤◌, ◌<◌, ◌-◌, ◌⊎◌, ◌↔◌, Some, length, slice_get, IfOk, IfErr, OnOk, OnErr, IsErr};
+ghost use Rattle.std.specs.List.{All};
+ghost use Rattle.std.specs.List.Sorted.{IsStrictlyIncreasing};
+ghost use Rattle.helix_profile.specs.Change.{kept, numbered, replaced, with_more};
 ghost use Rattle.helix_profile.specs.Validity.{IsValidProfile};
 
 use crate::constraint::{Constraint, Constraints};
 use crate::field::{Field, Fields};
+use helix_base::Memory;
+use std::alloc::Global;
 use std::marker::Model;
 
 /// Fields in their declared order, and constraints on them, that together are valid:
@@ -36,7 +41,16 @@ impl Model for Profile {
 
     ghost view = { λ profile. record { fields = profile.fields; constraints = profile.constraints } };
 
-    ghost invariant = { λ profile. IsValidProfile (record { fields = profile.fields; constraints = profile.constraints }) };
+    ghost invariant = { λ profile.
+        IsValidProfile (record { fields = profile.fields; constraints = profile.constraints }) };
+}
+
+/// Why [`Profile::replace_constraint`] refused: there are `count` constraints, and none has that
+/// number. The given one comes back.
+#[derive(Debug, Drop)]
+pub struct NoSuchConstraint {
+    pub given: Constraint,
+    pub count: u32,
 }
 
 impl Profile {
@@ -63,4 +77,64 @@ impl Profile {
     {
         self.constraints.as_slice()
     }
+
+    /// Puts a constraint in the place of another one, which it hands back. Constraints are numbered
+    /// from 1. It takes no memory.
+    pub fn replace_constraint(
+        &mut self,
+        k: usize,
+        with: Constraint,
+    ) -> Result<Constraint, NoSuchConstraint>
+        requires { 1 ≤ k → k ≤ length self.old.constraints → IsValidProfile (replaced self.old k with) }
+        ensures ok { OnOk result (self.new ≡ replaced self.old k with) }
+        ensures old { IfOk result (λ old. slice_get self.old.constraints (k - 1) ≡ Some old) }
+        ensures refused { IsErr result ↔ ((k ≡ 0) ⊎ (length self.old.constraints < k)) }
+        ensures unchanged { OnErr result (self.new ≡ self.old) }
+        ensures given { IfErr result (λ none. (none.given ≡ with) × (none.count ≡ length self.old.constraints)) }
+    {
+        let count = self.constraints.as_slice().len();
+        if k == 0 || count < k {
+            return Err(NoSuchConstraint {
+                given: with,
+                count: count as u32,
+            });
+        }
+        Ok(self.constraints.replace(k - 1, with))
+    }
+
+    /// Appends constraints. On `Err`, memory ran out, and the profile is unchanged.
+    pub fn add(&mut self, more: Constraints) -> Result<(), Memory>
+        requires { IsValidProfile (with_more self.old more) }
+        ensures ok { OnOk result (self.new ≡ with_more self.old more) }
+        ensures err { OnErr result (self.new ≡ self.old) }
+    {
+        self.constraints.append(more)
+    }
+
+    /// The profile with the constraints of these numbers alone, which are numbered from 1.
+    pub fn keep(&self, numbers: &[u32]) -> Result<Profile, Memory>
+        requires ascending { IsStrictlyIncreasing numbers.now }
+        requires numbers { All (λ number. (1 ≤ number) × (number ≤ length self.now.constraints)) numbers.now }
+        ensures { IfOk result (λ profile. profile ≡ kept self.now numbers.now) }
+    {
+        let alloc = self.constraints.allocator();
+        let constraints = constraints_of(alloc, self.constraints.as_slice(), numbers)?;
+        Ok(Profile::new(self.fields.copy(alloc)?, constraints))
+    }
+}
+
+/// The constraints of these numbers, which are numbered from 1.
+fn constraints_of(
+    alloc: Global,
+    constraints: &[Constraint],
+    numbers: &[u32],
+) -> Result<Constraints, Memory>
+    requires { All (λ number. (1 ≤ number) × (number ≤ length constraints.now)) numbers.now }
+    ensures { IfOk result (λ chosen. chosen ≡ numbered constraints.now numbers.now) }
+{
+    let mut chosen = Constraints::new(alloc);
+    for number in numbers {
+        chosen.push(constraints[*number as usize - 1].copy(alloc)?)?;
+    }
+    Ok(chosen)
 }

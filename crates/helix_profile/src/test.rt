@@ -19,7 +19,7 @@ pub enum Test {
     Matching(Regex),
     /// A text with a part that matches.
     Containing(Regex),
-    /// A text of so many characters.
+    /// A text of this length in characters.
     OfLength(u32),
     LongerThan(u32),
     ShorterThan(u32),

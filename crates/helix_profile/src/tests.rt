@@ -1,26 +1,29 @@
 mod build;
 mod made;
 mod null_rule;
+mod patterns;
+mod relations;
 mod trade;
 mod worked_rows;
 
-use crate::{Constraint, Constraints, Fields, Test, copy_constraints};
-use build::{atom, field, not, number};
+use crate::laws::{
+    a_prefix_goes_on, answers_of_any_set, each_form, one_answer_list, one_rest,
+    the_answer_is_a_rest, the_rest_is_a_prefix, violating_replaces,
+};
+use crate::{Compare, Constraint, Profile};
+use build::{Check, Step, Value, constraints, fields};
 use helix_values::Kind;
 use std::test::Fail;
 
 #[test]
 fn profiles_are_built_and_copied(rt: HostRuntime) -> Result<(), Fail> {
-    let mut fields = Fields::new(rt.alloc());
-    let flag = field(rt.alloc(), "flag", Kind::Boolean, true)?;
-    fields.push(flag)?;
+    let fields = fields(rt.alloc(), &[("flag", Kind::Boolean, true)])?;
     let copy = fields.copy(rt.alloc())?;
     assert_eq!(rt; copy.as_slice().len(), 1);
-    let mut constraints = Constraints::new(rt.alloc());
-    let bound = not(rt.alloc(), atom(0, Test::AtLeast(number(1))))?;
-    constraints.push(bound)?;
-    let copies = copy_constraints(rt.alloc(), constraints.as_slice())?;
-    assert_eq!(rt; copies.len(), 1);
+    let bound = Check::Bound(Compare::AtLeast, Value::Whole(1));
+    let constraints = constraints(rt.alloc(), &[Step::Test(0, bound), Step::Not])?;
+    let copies = constraints.copy(rt.alloc())?;
+    assert_eq!(rt; copies.as_slice().len(), 1);
     match copies.as_slice() {
         [Constraint::Not(part)] => match part.get() {
             Constraint::Atom(_) => {}
@@ -29,4 +32,16 @@ fn profiles_are_built_and_copied(rt: HostRuntime) -> Result<(), Fail> {
         _ => assert!(rt; false, "one negation was copied"),
     }
     Ok(())
+}
+
+#[test]
+fn laws_hold_of_the_good_rows_and_of_any_set() {
+    one_answer_list();
+    one_rest();
+    the_answer_is_a_rest();
+    the_rest_is_a_prefix();
+    a_prefix_goes_on();
+    answers_of_any_set::<Profile>();
+    each_form();
+    violating_replaces();
 }

@@ -1,9 +1,13 @@
-//! What the tests build their profiles from.
+//! What the tests build their rows and constraints from: data, as a table can hold it.
 
-use crate::{Atom, Compare, Constraint, Constraints, Field, Relation, Test};
+use crate::tests::patterns::{Piece, regex};
+use crate::{
+    Atom, Compare, Constraint, Constraints, Field, Fields, Parts, Relation, Test, is_good_for,
+    satisfies,
+};
 use helix_base::{Memory, Text};
-use helix_expr::{Expr, Exprs, Ranges, Regex};
-use helix_values::{Cell, Cells, Kind, Offset};
+use helix_ladders::Offset;
+use helix_values::{Cell, Cells, Kind, Row};
 use sqlite_items::Boxed;
 use std::alloc::Global;
 
@@ -18,120 +22,209 @@ pub const SECOND_OF_JANUARY: i64 = 738_886;
 
 pub const FIRST_OF_MARCH: i64 = 738_945;
 
-pub fn number(whole: i128) -> Cell {
-    Cell::Number(whole.wrapping_mul(ONE))
+/// The value of a cell.
+#[derive(Clone, Copy, Debug)]
+pub enum Value<'a> {
+    Null,
+    Flag(bool),
+    Whole(i128),
+    Hundredths(i128),
+    Day(i64),
+    Text(&'a str),
 }
 
-pub fn hundredths(count: i128) -> Cell {
-    Cell::Number(count.wrapping_mul(10_000_000_000_000))
+/// A test of one field.
+#[derive(Clone, Copy, Debug)]
+pub enum Check<'a> {
+    IsNull(bool),
+    EqualTo(Value<'a>),
+    InSet(&'a [Value<'a>]),
+    /// The characters of a text, and then the pieces.
+    Matching(&'a str, &'a [Piece<'a>]),
+    /// The text begins so.
+    BeginningWith(&'a str),
+    OfLength(u32),
+    LongerThan(u32),
+    ShorterThan(u32),
+    Bound(Compare, Value<'a>),
+    OnGrid(u32),
 }
 
-pub fn day(number: i64) -> Cell {
-    Cell::Moment(number.wrapping_mul(DAY))
+/// A step that makes a constraint, of those that the steps before it made.
+#[derive(Clone, Copy, Debug)]
+pub enum Step<'a> {
+    Test(u32, Check<'a>),
+    Related(u32, Compare, u32, i128),
+    Not,
+    /// Of the last two.
+    AllOf,
+    AnyOf,
+    /// Of the last two, condition and then; or of the last three, with an else.
+    If,
+    IfElse,
 }
 
-pub fn text(alloc: Global, string: &str) -> Result<Cell, Memory> {
-    Ok(Cell::Text(Text::of(alloc, string)?))
+fn cell(alloc: Global, value: Value<'_>) -> Result<Cell, Memory> {
+    match value {
+        Value::Null => Ok(Cell::Null),
+        Value::Flag(flag) => Ok(Cell::Bool(flag)),
+        Value::Whole(whole) => Ok(Cell::Number(whole.wrapping_mul(ONE))),
+        Value::Hundredths(count) => Ok(Cell::Number(count.wrapping_mul(ONE / 100))),
+        Value::Day(number) => Ok(Cell::Moment(number.wrapping_mul(DAY))),
+        Value::Text(string) => Ok(Cell::Text(Text::of(alloc, string)?)),
+    }
 }
 
-pub fn field(alloc: Global, name: &str, kind: Kind, nullable: bool) -> Result<Field, Memory> {
-    let name = Text::of(alloc, name)?;
-    Ok(Field {
-        name,
-        kind,
-        nullable,
-    })
+pub fn row(alloc: Global, values: &[Value<'_>]) -> Result<Row, Memory> {
+    let mut row = Row::new(alloc);
+    for value in values {
+        row.push(cell(alloc, *value)?)?;
+    }
+    Ok(row)
 }
 
-pub fn atom(field: u32, test: Test) -> Constraint {
-    Constraint::Atom(Atom { field, test })
+fn cells(alloc: Global, values: &[Value<'_>]) -> Result<Cells, Memory> {
+    let mut cells = Cells::new(alloc);
+    for value in values {
+        cells.push(cell(alloc, *value)?)?;
+    }
+    Ok(cells)
 }
 
-pub fn related(left: u32, compare: Compare, right: u32, offset: i128) -> Constraint {
-    let offset = Offset::Plain(offset);
-    Constraint::Related(Relation {
-        left,
-        compare,
-        right,
-        offset,
-    })
+pub fn fields(alloc: Global, all: &[(&str, Kind, bool)]) -> Result<Fields, Memory> {
+    let mut fields = Fields::new(alloc);
+    for (name, kind, nullable) in all {
+        let name = Text::of(alloc, name)?;
+        fields.push(Field {
+            name,
+            kind: *kind,
+            nullable: *nullable,
+        })?;
+    }
+    Ok(fields)
 }
 
-pub fn not(alloc: Global, part: Constraint) -> Result<Constraint, Memory> {
-    Ok(Constraint::Not(Boxed::new(alloc, part)?))
+fn bound(compare: Compare, cell: Cell) -> Test {
+    match compare {
+        Compare::Equal => Test::EqualTo(cell),
+        Compare::Above => Test::Above(cell),
+        Compare::AtLeast => Test::AtLeast(cell),
+        Compare::Below => Test::Below(cell),
+        Compare::AtMost => Test::AtMost(cell),
+    }
 }
 
-pub fn pair(alloc: Global, a: Constraint, b: Constraint) -> Result<Constraints, Memory> {
-    let mut parts = Constraints::new(alloc);
-    parts.push(a)?;
-    parts.push(b)?;
+fn test(alloc: Global, check: Check<'_>) -> Result<Test, Memory> {
+    match check {
+        Check::IsNull(wanted) => Ok(Test::IsNull(wanted)),
+        Check::EqualTo(value) => Ok(Test::EqualTo(cell(alloc, value)?)),
+        Check::InSet(values) => Ok(Test::InSet(cells(alloc, values)?)),
+        Check::Matching(word, pieces) => Ok(Test::Matching(regex(alloc, word, pieces)?)),
+        Check::BeginningWith(word) => Ok(Test::Containing(regex(alloc, word, &[])?)),
+        Check::OfLength(length) => Ok(Test::OfLength(length)),
+        Check::LongerThan(length) => Ok(Test::LongerThan(length)),
+        Check::ShorterThan(length) => Ok(Test::ShorterThan(length)),
+        Check::Bound(compare, value) => Ok(bound(compare, cell(alloc, value)?)),
+        Check::OnGrid(level) => Ok(Test::OnGrid(level)),
+    }
+}
+
+/// The last constraint. Where a table has too few, one that every row satisfies.
+fn last(alloc: Global, made: &mut Vec<Constraint>) -> Constraint {
+    match made.pop() {
+        Some(constraint) => constraint,
+        None => Constraint::AllOf(Parts::new(alloc)),
+    }
+}
+
+fn last_two(alloc: Global, made: &mut Vec<Constraint>) -> Result<Parts, Memory> {
+    let second = last(alloc, made);
+    let mut parts = Parts::new(alloc);
+    parts.push(last(alloc, made))?;
+    parts.push(second)?;
     Ok(parts)
 }
 
-pub fn if_then(
+fn conditional(
     alloc: Global,
-    condition: Constraint,
-    then: Constraint,
+    made: &mut Vec<Constraint>,
+    otherwise: Option<Boxed<Constraint>>,
 ) -> Result<Constraint, Memory> {
-    let condition = Boxed::new(alloc, condition)?;
-    let then = Boxed::new(alloc, then)?;
-    Ok(Constraint::If(condition, then, None))
+    let then = Boxed::new(alloc, last(alloc, made))?;
+    let condition = Boxed::new(alloc, last(alloc, made))?;
+    Ok(Constraint::If(condition, then, otherwise))
 }
 
-pub fn if_else(
+fn made_by(
     alloc: Global,
-    condition: Constraint,
-    then: Constraint,
-    other: Constraint,
+    made: &mut Vec<Constraint>,
+    step: Step<'_>,
 ) -> Result<Constraint, Memory> {
-    let condition = Boxed::new(alloc, condition)?;
-    let then = Boxed::new(alloc, then)?;
-    let other = Boxed::new(alloc, other)?;
-    Ok(Constraint::If(condition, then, Some(other)))
-}
-
-pub fn in_numbers(alloc: Global, field: u32, members: &[i128]) -> Result<Constraint, Memory> {
-    let mut cells = Cells::new(alloc);
-    for member in members {
-        cells.push(number(*member))?;
+    match step {
+        Step::Test(field, check) => Ok(Constraint::Atom(Atom {
+            field,
+            test: test(alloc, check)?,
+        })),
+        Step::Related(left, compare, right, offset) => Ok(Constraint::Related(Relation {
+            left,
+            compare,
+            right,
+            offset: Offset::Plain(offset),
+        })),
+        Step::Not => Ok(Constraint::Not(Boxed::new(alloc, last(alloc, made))?)),
+        Step::AllOf => Ok(Constraint::AllOf(last_two(alloc, made)?)),
+        Step::AnyOf => Ok(Constraint::AnyOf(last_two(alloc, made)?)),
+        Step::If => conditional(alloc, made, None),
+        Step::IfElse => {
+            let other = Boxed::new(alloc, last(alloc, made))?;
+            conditional(alloc, made, Some(other))
+        }
     }
-    Ok(atom(field, Test::InSet(cells)))
 }
 
-pub fn in_texts(alloc: Global, field: u32, members: &[&str]) -> Result<Constraint, Memory> {
-    let mut cells = Cells::new(alloc);
-    for member in members {
-        let cell = text(alloc, member)?;
-        cells.push(cell)?;
+fn made(alloc: Global, steps: &[Step<'_>]) -> Result<Vec<Constraint>, Memory> {
+    let mut all = Vec::new(alloc);
+    for step in steps {
+        let constraint = made_by(alloc, &mut all, *step)?;
+        all.push(constraint)?;
     }
-    Ok(atom(field, Test::InSet(cells)))
+    Ok(all)
 }
 
-/// So many characters of the ranges.
-pub fn characters(
+/// The constraints that are left after all steps.
+pub fn constraints(alloc: Global, steps: &[Step<'_>]) -> Result<Constraints, Memory> {
+    let mut all = Constraints::new(alloc);
+    for constraint in made(alloc, steps)? {
+        all.push(constraint)?;
+    }
+    Ok(all)
+}
+
+/// The one constraint that is left after all steps.
+pub fn constraint(alloc: Global, steps: &[Step<'_>]) -> Result<Constraint, Memory> {
+    let mut all = made(alloc, steps)?;
+    Ok(last(alloc, &mut all))
+}
+
+/// Whether the row of these values is good.
+pub fn is_good(
     alloc: Global,
-    ranges: &[(char, char)],
-    least: u32,
-    most: Option<u32>,
-) -> Result<Expr, Memory> {
-    let mut all = Ranges::new(alloc);
-    for (first, last) in ranges {
-        all.push((*first as u32, *last as u32))?;
-    }
-    Ok(Expr::Repeat(Boxed::new(alloc, Expr::Chars(all))?, least, most))
+    fields: &Fields,
+    constraints: &Constraints,
+    values: &[Value<'_>],
+) -> Result<bool, Memory> {
+    let row = row(alloc, values)?;
+    Ok(is_good_for(fields.as_slice(), constraints.as_slice(), row.as_slice()))
 }
 
-/// The characters of a text, and then what another expression matches.
-pub fn spelt(alloc: Global, word: &str, rest: Expr) -> Result<Regex, Memory> {
-    let mut parts = Exprs::new(alloc);
-    for code in word.chars() {
-        let letter = characters(alloc, &[(code, code)], 1, Some(1))?;
-        parts.push(letter)?;
-    }
-    parts.push(rest)?;
-    Ok(Regex {
-        expr: Expr::Seq(parts),
-        at_start: true,
-        at_end: false,
-    })
+/// Whether the row of these values satisfies a constraint, and whether its negation.
+pub fn signs(
+    alloc: Global,
+    constraint: &Constraint,
+    values: &[Value<'_>],
+) -> Result<(bool, bool), Memory> {
+    let row = row(alloc, values)?;
+    let plus = satisfies(constraint, row.as_slice(), true);
+    let minus = satisfies(constraint, row.as_slice(), false);
+    Ok((plus, minus))
 }

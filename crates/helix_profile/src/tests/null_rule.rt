@@ -1,135 +1,115 @@
-use crate::tests::build::{
-    FIRST_OF_MARCH, atom, characters, day, if_else, if_then, in_numbers, not, number, pair,
-    related, spelt, text,
-};
-use crate::{Compare, Constraint, Test, satisfies};
+use crate::Compare;
+use crate::tests::build::{Check, FIRST_OF_MARCH, Step, Value, constraint, signs};
 use helix_base::Memory;
-use helix_expr::Expr;
-use helix_values::{Cell, Row};
 use std::alloc::Global;
 use std::test::Fail;
 
-/// A constraint of each form, on a number, a text, a date and another number.
-fn form(alloc: Global, name: &str) -> Result<Constraint, Memory> {
-    match name {
-        "isNull" => Ok(atom(0, Test::IsNull(true))),
-        "isNull false" => Ok(atom(0, Test::IsNull(false))),
-        "equalTo 2" => Ok(atom(0, Test::EqualTo(number(2)))),
-        "inSet 1" => in_numbers(alloc, 0, &[1]),
-        "matching a+b" => {
-            let regex = spelt(alloc, "a", characters(alloc, &[('b', 'b')], 1, None)?)?;
-            Ok(atom(1, Test::Matching(regex)))
-        }
-        "containing ^b" => Ok(atom(1, Test::Containing(spelt(alloc, "b", Expr::Empty)?))),
-        "ofLength 2" => Ok(atom(1, Test::OfLength(2))),
-        "longerThan 2" => Ok(atom(1, Test::LongerThan(2))),
-        "shorterThan 3" => Ok(atom(1, Test::ShorterThan(3))),
-        "greaterThan 2" => Ok(atom(0, Test::Above(number(2)))),
-        "greaterThanOrEqualTo 2" => Ok(atom(0, Test::AtLeast(number(2)))),
-        "lessThan 3" => Ok(atom(0, Test::Below(number(3)))),
-        "lessThanOrEqualTo 1" => Ok(atom(0, Test::AtMost(number(1)))),
-        "granularTo months" => Ok(atom(2, Test::OnGrid(5))),
-        "lessThanField" => Ok(related(0, Compare::Below, 3, 0)),
-        _ => composed(alloc, name),
-    }
-}
+/// The row 2, `ab`, 2024-03-01, 3.
+const VALUES: [Value<'static>; 4] = [
+    Value::Whole(2),
+    Value::Text("ab"),
+    Value::Day(FIRST_OF_MARCH),
+    Value::Whole(3),
+];
 
-fn composed(alloc: Global, name: &str) -> Result<Constraint, Memory> {
-    match name {
-        "not" => not(alloc, is_two()),
-        "allOf" => Ok(Constraint::AllOf(pair(alloc, is_two(), is_one(alloc)?)?)),
-        "anyOf" => Ok(Constraint::AnyOf(pair(alloc, is_two(), is_one(alloc)?)?)),
-        _ => conditional(alloc, name),
-    }
-}
-
-fn conditional(alloc: Global, name: &str) -> Result<Constraint, Memory> {
-    let null = atom(0, Test::IsNull(true));
-    match name {
-        "if null" => if_then(alloc, null, is_two()),
-        "if" => if_then(alloc, is_two(), is_one(alloc)?),
-        _ => if_else(alloc, null, is_two(), is_one(alloc)?),
-    }
-}
-
-/// What the number of the row is.
-fn is_two() -> Constraint {
-    atom(0, Test::EqualTo(number(2)))
-}
-
-/// What it isn't.
-fn is_one(alloc: Global) -> Result<Constraint, Memory> {
-    in_numbers(alloc, 0, &[1])
-}
-
-/// The row 2, `ab`, 2024-03-01, 3, in which the fields of a name's letters are null.
-fn row_of(alloc: Global, nulls: &str) -> Result<Row, Memory> {
-    let mut row = Row::new(alloc);
-    let cells = [
-        ('n', number(2)),
-        ('s', text(alloc, "ab")?),
-        ('d', day(FIRST_OF_MARCH)),
-        ('m', number(3)),
-    ];
-    for (letter, cell) in cells {
-        if nulls.contains(letter) {
-            row.push(Cell::Null)?;
-        } else {
-            row.push(cell)?;
-        }
-    }
-    Ok(row)
+/// What steps make of that row and of one of nulls, with both signs.
+fn answers(alloc: Global, steps: &[Step<'_>]) -> Result<((bool, bool), (bool, bool)), Memory> {
+    let constraint = constraint(alloc, steps)?;
+    let at_values = signs(alloc, &constraint, &VALUES)?;
+    let at_nulls = signs(alloc, &constraint, &[Value::Null; 4])?;
+    Ok((at_values, at_nulls))
 }
 
 #[test]
 fn null_satisfies_a_plain_test_and_its_negation(rt: HostRuntime) -> Result<(), Fail> {
-    // Each form on a row without a null and on one of nulls, with plus and with minus.
+    let two = Value::Whole(2);
+    // Each test on a row without a null and on one of nulls, with plus and with minus.
     let cases = [
-        ("isNull", (false, true), (true, false)),
-        ("isNull false", (true, false), (false, true)),
-        ("equalTo 2", (true, false), (true, true)),
-        ("inSet 1", (false, true), (true, true)),
-        ("matching a+b", (true, false), (true, true)),
-        ("containing ^b", (false, true), (true, true)),
-        ("ofLength 2", (true, false), (true, true)),
-        ("longerThan 2", (false, true), (true, true)),
-        ("shorterThan 3", (true, false), (true, true)),
-        ("greaterThan 2", (false, true), (true, true)),
-        ("greaterThanOrEqualTo 2", (true, false), (true, true)),
-        ("lessThan 3", (true, false), (true, true)),
-        ("lessThanOrEqualTo 1", (false, true), (true, true)),
-        ("granularTo months", (true, false), (true, true)),
-        ("lessThanField", (true, false), (true, true)),
-        ("not", (false, true), (true, true)),
-        ("allOf", (false, true), (true, true)),
-        ("anyOf", (true, false), (true, true)),
-        ("if null", (true, false), (true, true)),
-        ("if", (false, true), (true, true)),
-        ("if null else", (false, true), (true, true)),
+        (0, Check::IsNull(true), (false, true), (true, false)),
+        (0, Check::IsNull(false), (true, false), (false, true)),
+        (0, Check::EqualTo(two), (true, false), (true, true)),
+        (
+            0,
+            Check::InSet(&[Value::Whole(1)]),
+            (false, true),
+            (true, true),
+        ),
+        (
+            1,
+            Check::Matching("a", &[(&[('b', 'b')], 1, None)]),
+            (true, false),
+            (true, true),
+        ),
+        (1, Check::BeginningWith("b"), (false, true), (true, true)),
+        (1, Check::OfLength(2), (true, false), (true, true)),
+        (1, Check::LongerThan(2), (false, true), (true, true)),
+        (1, Check::ShorterThan(3), (true, false), (true, true)),
+        (
+            0,
+            Check::Bound(Compare::Above, two),
+            (false, true),
+            (true, true),
+        ),
+        (
+            0,
+            Check::Bound(Compare::AtLeast, two),
+            (true, false),
+            (true, true),
+        ),
+        (
+            0,
+            Check::Bound(Compare::Below, Value::Whole(3)),
+            (true, false),
+            (true, true),
+        ),
+        (
+            0,
+            Check::Bound(Compare::AtMost, Value::Whole(1)),
+            (false, true),
+            (true, true),
+        ),
+        (2, Check::OnGrid(5), (true, false), (true, true)),
     ];
-    for (name, at_values, at_nulls) in cases {
-        for (nulls, want) in [("", at_values), ("nsdm", at_nulls)] {
-            let constraint = form(rt.alloc(), name)?;
-            let row = row_of(rt.alloc(), nulls)?;
-            let row = row.as_slice();
-            let signs = (
-                satisfies(&constraint, row, true),
-                satisfies(&constraint, row, false),
-            );
-            assert_eq!(rt; signs, want, "{name} with null {nulls}");
-        }
+    for (field, check, at_values, at_nulls) in cases {
+        let signs = answers(rt.alloc(), &[Step::Test(field, check)])?;
+        assert_eq!(rt; signs, (at_values, at_nulls), "{check:?}");
+    }
+    Ok(())
+}
+
+#[test]
+fn composed_constraints_at_null(rt: HostRuntime) -> Result<(), Fail> {
+    let null = Step::Test(0, Check::IsNull(true));
+    let two = Step::Test(0, Check::EqualTo(Value::Whole(2)));
+    let one = Step::Test(0, Check::InSet(&[Value::Whole(1)]));
+    let below = Step::Related(0, Compare::Below, 3, 0);
+    let cases: [(&[Step<'_>], (bool, bool), (bool, bool)); 7] = [
+        (&[below], (true, false), (true, true)),
+        (&[two, Step::Not], (false, true), (true, true)),
+        (&[two, one, Step::AllOf], (false, true), (true, true)),
+        (&[two, one, Step::AnyOf], (true, false), (true, true)),
+        (&[null, two, Step::If], (true, false), (true, true)),
+        (&[two, one, Step::If], (false, true), (true, true)),
+        (&[null, two, one, Step::IfElse], (false, true), (true, true)),
+    ];
+    for (steps, at_values, at_nulls) in cases {
+        let signs = answers(rt.alloc(), steps)?;
+        assert_eq!(rt; signs, (at_values, at_nulls), "{steps:?}");
     }
     Ok(())
 }
 
 #[test]
 fn null_at_either_end_satisfies_a_relation_and_its_negation(rt: HostRuntime) -> Result<(), Fail> {
-    for nulls in ["n", "m", "nm"] {
-        let relation = form(rt.alloc(), "lessThanField")?;
-        let row = row_of(rt.alloc(), nulls)?;
-        let row = row.as_slice();
-        assert!(rt; satisfies(&relation, row, true), "{nulls}");
-        assert!(rt; satisfies(&relation, row, false), "{nulls}");
+    let relation = constraint(rt.alloc(), &[Step::Related(0, Compare::Below, 1, 0)])?;
+    let (two, three) = (Value::Whole(2), Value::Whole(3));
+    for ends in [
+        [Value::Null, three],
+        [two, Value::Null],
+        [Value::Null, Value::Null],
+    ] {
+        let signs = signs(rt.alloc(), &relation, &ends)?;
+        assert_eq!(rt; signs, (true, true), "{ends:?}");
     }
     Ok(())
 }

@@ -1,11 +1,9 @@
 use crate::tests::build::{
-    DAY, SECOND_OF_JANUARY, atom, characters, day, field, hundredths, if_else, if_then, in_texts,
-    number, related, spelt, text,
+    Check, DAY, SECOND_OF_JANUARY, Step, Value, constraints, fields, is_good,
 };
-use crate::{Compare, Constraint, Constraints, Fields, Test, is_good_for};
+use crate::{Compare, Constraints, Fields};
 use helix_base::{Alphabet, Memory};
-use helix_expr::{Expr, Exprs, Regex};
-use helix_values::{Cell, Kind, Row};
+use helix_values::Kind;
 use std::alloc::Global;
 use std::test::Fail;
 
@@ -23,145 +21,105 @@ fn fields_of(alloc: Global) -> Result<Fields, Memory> {
         ("isin", string, true),
         ("cancelled", Kind::Boolean, true),
     ];
-    let mut fields = Fields::new(alloc);
-    for (name, kind, nullable) in all {
-        let made = field(alloc, name, kind, nullable)?;
-        fields.push(made)?;
-    }
-    Ok(fields)
+    fields(alloc, &all)
 }
 
-/// Two capital letters, nine capital letters or digits, and a digit.
-fn security(alloc: Global) -> Result<Regex, Memory> {
-    let mut parts = Exprs::new(alloc);
-    let country = characters(alloc, &[('A', 'Z')], 2, Some(2))?;
-    parts.push(country)?;
-    let number = characters(alloc, &[('A', 'Z'), ('0', '9')], 9, Some(9))?;
-    parts.push(number)?;
-    let check = characters(alloc, &[('0', '9')], 1, Some(1))?;
-    parts.push(check)?;
-    Ok(Regex {
-        expr: Expr::Seq(parts),
-        at_start: false,
-        at_end: false,
-    })
+/// An identifier, a date in a year, settled from two to five days later, a currency, a price in hundredths
+/// and a quantity in their ranges.
+fn on_values(alloc: Global) -> Result<Constraints, Memory> {
+    let digits = [(&[('0', '9')][..], 6, Some(6))];
+    let most = Value::Whole(1_000_000);
+    let all = [
+        Step::Test(0, Check::Matching("TR", &digits)),
+        Step::Test(
+            1,
+            Check::Bound(Compare::AtLeast, Value::Day(SECOND_OF_JANUARY)),
+        ),
+        Step::Test(
+            1,
+            Check::Bound(Compare::Below, Value::Day(SECOND_OF_JANUARY + 365)),
+        ),
+        Step::Related(2, Compare::AtLeast, 1, 2 * DAY as i128),
+        Step::Related(2, Compare::AtMost, 1, 5 * DAY as i128),
+        Step::Test(
+            3,
+            Check::InSet(&[Value::Text("USD"), Value::Text("EUR"), Value::Text("GBP")]),
+        ),
+        Step::Test(4, Check::OnGrid(13)),
+        Step::Test(4, Check::Bound(Compare::Above, Value::Whole(0))),
+        Step::Test(4, Check::Bound(Compare::AtMost, most)),
+        Step::Test(5, Check::Bound(Compare::AtLeast, Value::Whole(1))),
+        Step::Test(5, Check::Bound(Compare::AtMost, most)),
+    ];
+    constraints(alloc, &all)
 }
 
-/// A trade in this currency is in a security of this country.
-fn country_of(alloc: Global, currency: &str, country: &str) -> Result<Constraint, Memory> {
-    let condition = atom(3, Test::EqualTo(text(alloc, currency)?));
-    let regex = spelt(alloc, country, Expr::Empty)?;
-    if_then(alloc, condition, atom(6, Test::Containing(regex)))
+/// Two capital letters, nine capital letters or digits, and a digit: a security, of the country of its currency.
+fn on_securities(alloc: Global) -> Result<Constraints, Memory> {
+    let security = [
+        (&[('A', 'Z')][..], 2, Some(2)),
+        (&[('A', 'Z'), ('0', '9')][..], 9, Some(9)),
+        (&[('0', '9')][..], 1, Some(1)),
+    ];
+    let all = [
+        Step::Test(6, Check::Matching("", &security)),
+        Step::Test(3, Check::EqualTo(Value::Text("USD"))),
+        Step::Test(6, Check::BeginningWith("US")),
+        Step::If,
+        Step::Test(3, Check::EqualTo(Value::Text("GBP"))),
+        Step::Test(6, Check::BeginningWith("GB")),
+        Step::If,
+    ];
+    constraints(alloc, &all)
 }
 
-fn on_dates(alloc: Global, all: &mut Constraints) -> Result<(), Memory> {
-    let identifier = spelt(alloc, "TR", characters(alloc, &[('0', '9')], 6, Some(6))?)?;
-    all.push(atom(0, Test::Matching(identifier)))?;
-    all.push(atom(1, Test::AtLeast(day(SECOND_OF_JANUARY))))?;
-    all.push(atom(1, Test::Below(day(SECOND_OF_JANUARY + 365))))?;
-    all.push(related(2, Compare::AtLeast, 1, 2 * i128::from(DAY)))?;
-    all.push(related(2, Compare::AtMost, 1, 5 * i128::from(DAY)))?;
-    Ok(())
-}
-
-fn on_numbers(alloc: Global, all: &mut Constraints) -> Result<(), Memory> {
-    let currencies = in_texts(alloc, 3, &["USD", "EUR", "GBP"])?;
-    all.push(currencies)?;
-    all.push(atom(4, Test::OnGrid(13)))?;
-    all.push(atom(4, Test::Above(number(0))))?;
-    all.push(atom(4, Test::AtMost(number(1_000_000))))?;
-    all.push(atom(5, Test::AtLeast(number(1))))?;
-    all.push(atom(5, Test::AtMost(number(1_000_000))))?;
-    Ok(())
-}
-
-fn on_securities(alloc: Global, all: &mut Constraints) -> Result<(), Memory> {
-    let security = security(alloc)?;
-    all.push(atom(6, Test::Matching(security)))?;
-    let dollars = country_of(alloc, "USD", "US")?;
-    all.push(dollars)?;
-    let pounds = country_of(alloc, "GBP", "GB")?;
-    all.push(pounds)?;
-    Ok(())
-}
-
-fn on_conditions(alloc: Global, all: &mut Constraints) -> Result<(), Memory> {
-    let dear = atom(4, Test::Above(number(1000)));
-    let dear = if_then(alloc, dear, atom(5, Test::AtMost(number(100))))?;
-    all.push(dear)?;
-    let unknown = atom(6, Test::IsNull(true));
-    let unknown = if_then(alloc, unknown, atom(7, Test::EqualTo(Cell::Bool(true))))?;
-    all.push(unknown)?;
-    let cancelled = atom(7, Test::EqualTo(Cell::Bool(true)));
-    let one = atom(5, Test::EqualTo(number(1)));
-    let cancelled = if_else(alloc, cancelled, one, atom(4, Test::AtLeast(hundredths(5))))?;
-    all.push(cancelled)?;
-    Ok(())
-}
-
-fn constraints_of(alloc: Global) -> Result<Constraints, Memory> {
-    let mut all = Constraints::new(alloc);
-    on_dates(alloc, &mut all)?;
-    on_numbers(alloc, &mut all)?;
-    on_securities(alloc, &mut all)?;
-    on_conditions(alloc, &mut all)?;
-    Ok(all)
-}
-
-/// A trade, changed in one way from one that is good.
-fn trade(alloc: Global, change: &str) -> Result<Row, Memory> {
-    let settle = if change == "settled too early" { 1 } else { 2 };
-    let (price, quantity) = if change == "too many at this price" {
-        (100_001, 101)
-    } else {
-        (5, 1)
-    };
-    let mut row = Row::new(alloc);
-    let identifier = text(alloc, "TR000000")?;
-    row.push(identifier)?;
-    row.push(day(SECOND_OF_JANUARY))?;
-    row.push(day(SECOND_OF_JANUARY + settle))?;
-    let currency = currency(alloc, change)?;
-    row.push(currency)?;
-    row.push(hundredths(price))?;
-    row.push(number(quantity))?;
-    let isin = isin(alloc, change)?;
-    row.push(isin)?;
-    row.push(Cell::Bool(false))?;
-    Ok(row)
-}
-
-fn currency(alloc: Global, change: &str) -> Result<Cell, Memory> {
-    if change == "dollars elsewhere" {
-        text(alloc, "USD")
-    } else {
-        text(alloc, "EUR")
-    }
-}
-
-fn isin(alloc: Global, change: &str) -> Result<Cell, Memory> {
-    if change == "no security" {
-        Ok(Cell::Null)
-    } else {
-        text(alloc, "AA0000000000")
-    }
+/// What is dear comes in small quantities, what has no security is cancelled, and of what is cancelled there is one.
+fn on_conditions(alloc: Global) -> Result<Constraints, Memory> {
+    let cancelled = Step::Test(7, Check::EqualTo(Value::Flag(true)));
+    let all = [
+        Step::Test(4, Check::Bound(Compare::Above, Value::Whole(1000))),
+        Step::Test(5, Check::Bound(Compare::AtMost, Value::Whole(100))),
+        Step::If,
+        Step::Test(6, Check::IsNull(true)),
+        cancelled,
+        Step::If,
+        cancelled,
+        Step::Test(5, Check::EqualTo(Value::Whole(1))),
+        Step::Test(4, Check::Bound(Compare::AtLeast, Value::Hundredths(5))),
+        Step::IfElse,
+    ];
+    constraints(alloc, &all)
 }
 
 #[test]
 fn trades(rt: HostRuntime) -> Result<(), Fail> {
     let fields = fields_of(rt.alloc())?;
-    let constraints = constraints_of(rt.alloc())?;
+    let mut constraints = on_values(rt.alloc())?;
+    constraints.append(on_securities(rt.alloc())?)?;
+    constraints.append(on_conditions(rt.alloc())?)?;
+    let (euros, isin) = (Value::Text("EUR"), Value::Text("AA0000000000"));
+    // A good trade, and four that differ from it in one way: settled too early, dollars elsewhere, too many at this
+    // price, no security.
     let cases = [
-        ("nothing", true),
-        ("settled too early", false),
-        ("dollars elsewhere", false),
-        ("too many at this price", false),
-        ("no security", false),
+        (2, euros, 5, 1, isin, true),
+        (1, euros, 5, 1, isin, false),
+        (2, Value::Text("USD"), 5, 1, isin, false),
+        (2, euros, 100_001, 101, isin, false),
+        (2, euros, 5, 1, Value::Null, false),
     ];
-    for (change, want) in cases {
-        let row = trade(rt.alloc(), change)?;
-        let good = is_good_for(fields.as_slice(), constraints.as_slice(), row.as_slice());
-        assert_eq!(rt; good, want, "{change}");
+    for (settled, currency, price, quantity, isin, want) in cases {
+        let values = [
+            Value::Text("TR000000"),
+            Value::Day(SECOND_OF_JANUARY),
+            Value::Day(SECOND_OF_JANUARY.wrapping_add(settled)),
+            currency,
+            Value::Hundredths(price),
+            Value::Whole(quantity),
+            isin,
+            Value::Flag(false),
+        ];
+        let good = is_good(rt.alloc(), &fields, &constraints, &values)?;
+        assert_eq!(rt; good, want, "{values:?}");
     }
     Ok(())
 }

@@ -1,9 +1,12 @@
-use Rattle.helix_profile.proofs.Fronts.{front_goes_on, rest_goes_on}
+use Rattle.helix_profile.specs.Good.{IsGood}
+use Rattle.helix_profile.specs.AnswerLaws.{prefix_goes_on, rest_goes_on}
 use Rattle.helix_values.proofs.TotalOrder.{row_cmp_total}
-use Rattle.helix_profile.proofs.laws.a_front_goes_on.Goals as goal
+use Rattle.helix_profile.proofs.laws.a_prefix_goes_on.Goals as goal
 
-pub returns-clause-front : goal.returns-clause-front
-returns-clause-front c = λ profile start rows more last front next. front_goes_on row_cmp_total profile start rows last front more next
+pub returns-clause-prefix : goal.returns-clause-prefix
+returns-clause-prefix c = λ profile start rows more last prefix next.
+    prefix_goes_on row_cmp_total (IsGood profile) start rows last prefix more next
 
 pub returns-clause-rest : goal.returns-clause-rest
-returns-clause-rest c = λ profile start rows more last front rest. rest_goes_on row_cmp_total profile start rows last front more rest
+returns-clause-rest c = λ profile start rows more last prefix rest.
+    rest_goes_on row_cmp_total (IsGood profile) start rows last prefix more rest
