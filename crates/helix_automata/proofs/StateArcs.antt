@@ -12,7 +12,7 @@ use Rattle.helix_automata.specs.declared.arc.Arc.{Arc}
 use Rattle.helix_automata.specs.Machine.{LeadsOn}
 use Rattle.helix_automata.specs.Shape.{IsCharacter, AreArcs}
 use Rattle.helix_automata.specs.Inner.Row.{IsNextCharacter, Begun, AreNamed, LeadsMore}
-use Rattle.helix_automata.specs.Inner.Explore.{KeepTheirNumbers, AreStates, LeadsToOneOf, AreArcsOf, AreStateArcs}
+use Rattle.helix_automata.specs.Inner.Explore.{KeepTheirNumbers, AreStates, LeadsToOneOf, AreStateArcs}
 
 -- what is at an index stays there when the list grows
 still_there : {S : Type 0} (a b : List S) (added : S) → (b ≡ a) ⊎ (b ≡ a ++ added ∷ []) → KeepTheirNumbers a b

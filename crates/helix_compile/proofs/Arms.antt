@@ -1,6 +1,6 @@
 -- What the calls of the Thompson construction answer, and what that says of the expression at hand.
 use Rattle.std.proofs.Common.{◌≡◌, ℕ, ◌≤◌, ◌<◌, ◌+◌, ◌-◌, suc, ◌⊎◌, Option, Some, None, Result, Ok, Err, IfOk, OnOk, List, [], ◌∷◌, ◌++◌, length, take, drop, get_or, slice_get, sym, ap, ◌∙◌, subst, arith, append_assoc}
-use Rattle.std.proofs.lemmas.List.{take-append-drop, length-append, append-nil}
+use Rattle.std.proofs.lemmas.List.{take-append-drop, length-append}
 use Rattle.std.proofs.Common.{drop-cons}
 use Rattle.std.proofs.Math.ListN.{drop_of_length-le}
 use Rattle.helix_expr.specs.declared.expr.Expr.{Expr, Empty, Chars}
@@ -12,7 +12,7 @@ use Rattle.helix_compile.specs.declared.nfa.State.TheVariants.{Fail, Read, Split
 use Rattle.helix_compile.specs.Inner.Nfa.{Grows, Builds}
 use Rattle.helix_compile.specs.Inner.Repeats.{AnyNumber, UpToNumber, RepeatsMore}
 use Rattle.helix_compile.proofs.Leading.{Both, leads_read, leads_nowhere}
-use Rattle.helix_compile.proofs.Building.{grows_none, grows_more, grows_push, pushed_there, builds_nothing, builds_same, builds_both, builds_early, builds_on, builds_either}
+use Rattle.helix_compile.proofs.Building.{grows_none, grows_more, grows_push, pushed_there, builds_nothing, builds_same, builds_both, builds_early, builds_either}
 use Rattle.helix_compile.proofs.EmptyWords.{Quiet, none_asked, once_asked, too_few_allowed}
 use Rattle.helix_compile.proofs.Times.{repeats_is, any_is, up_to_is, none_is, up_to_none, up_to_more}
 

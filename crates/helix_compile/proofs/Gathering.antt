@@ -1,6 +1,5 @@
 -- Alternatives of which those that are one character are gathered.
-use Rattle.std.proofs.Common.{◌≡◌, ◌⊎◌, ◌↔◌, inl, inr, ℕ, ◌<◌, ◌≤◌, Bool, true, ◌==◌, Some, Result, Ok, Err, IfOk, OnOk, List, [], ◌∷◌, ◌++◌, length, refl, sym, ap, ◌∙◌, subst, arith}
-use Rattle.std.specs.Prelude.{IsTrue}
+use Rattle.std.proofs.Common.{◌≡◌, ◌⊎◌, ◌↔◌, inl, inr, ℕ, ◌<◌, true, ◌==◌, Result, Ok, Err, IfOk, OnOk, List, [], ◌∷◌, ◌++◌, length, refl, sym, subst, arith}
 use Rattle.std.proofs.lemmas.Bool.{or_cases, or_left, or_right, eqb-true}
 use Rattle.helix_base.specs.Alphabet.{is_in_range}
 use Rattle.helix_base.specs.Ranges.{in_ranges}
@@ -10,7 +9,7 @@ use Rattle.helix_compile.specs.declared.nfa.State.{State}
 use Rattle.helix_compile.specs.declared.nfa.State.TheVariants.{Fail, Read, Split}
 use Rattle.helix_compile.specs.Inner.Nfa.{Grows, Builds}
 use Rattle.helix_compile.specs.Inner.Alternatives.{AreAlternatives}
-use Rattle.helix_compile.proofs.Building.{grows_none, grows_more, grows_push, builds_same, builds_early, builds_on, builds_either}
+use Rattle.helix_compile.proofs.Building.{grows_more, grows_push, builds_same, builds_early, builds_on, builds_either}
 use Rattle.helix_compile.proofs.Arms.{builds_read, builds_stop}
 
 -- ranges after ranges

@@ -1,5 +1,5 @@
 -- Sets of states as the states of a machine.
-use Rattle.std.proofs.Common.{◌≡◌, ◌⊎◌, ◌↔◌, inl, inr, ℕ, zero, suc, ◌<◌, ◌≤◌, Bool, true, Option, Some, None, Result, Ok, Err, IfOk, OnOk, List, [], ◌∷◌, ◌++◌, All, Any, length, slice_get, Contains, ap, arith, refl, sym, ◌∙◌, subst}
+use Rattle.std.proofs.Common.{◌≡◌, ◌⊎◌, ◌↔◌, inl, inr, ℕ, zero, suc, ◌≤◌, Bool, true, Option, Some, None, Result, Ok, Err, IfOk, List, [], ◌∷◌, ◌++◌, All, Any, length, slice_get, Contains, ap, arith, refl, sym, ◌∙◌, subst}
 use Rattle.helix_automata.specs.Automaton.{Automaton, Accepts}
 use Rattle.helix_automata.specs.Shape.{IsCharacter}
 use Rattle.helix_compile.specs.declared.nfa.State.{State}

@@ -1,7 +1,7 @@
 -- What is accepted from the first state of a pattern.
-use Rattle.std.proofs.Common.{◌≡◌, ℕ, ◌≤◌, ◌+◌, zero, suc, ◌⊎◌, inl, inr, ◌↔◌, Bool, true, false, ◌&&◌, ◌||◌, nat_le, not, Some, Result, IfOk, OnOk, List, [], ◌∷◌, ◌++◌, All, length, slice_get, refl, sym, ap, ◌∙◌, subst, arith, append-nil, append_assoc}
+use Rattle.std.proofs.Common.{◌≡◌, ℕ, ◌≤◌, zero, suc, inl, inr, ◌↔◌, Bool, true, false, ◌&&◌, ◌||◌, nat_le, not, Some, Result, IfOk, OnOk, List, [], ◌∷◌, ◌++◌, All, length, slice_get, refl, sym, ap, ◌∙◌, subst, arith, append-nil, append_assoc}
 use Rattle.std.proofs.lemmas.Bool.{leb-true, le-leb, and_parts, or_cases}
-use Rattle.std.proofs.lemmas.List.{get_or_append_left, length-append, get_or-append-add}
+use Rattle.std.proofs.lemmas.List.{get_or_append_left, length-append}
 use Rattle.std.proofs.lemmas.List.Elements.{All-head, All-tail}
 use Rattle.helix_automata.specs.Shape.{IsCharacter}
 use Rattle.helix_expr.specs.declared.expr.Expr.{Chars}

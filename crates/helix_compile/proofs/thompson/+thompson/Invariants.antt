@@ -1,6 +1,6 @@
 use Rattle.std.proofs.Common.{◌≡◌, ◌++◌, ◌+◌, ◌*◌, List, length}
 use Rattle.helix_expr.specs.declared.expr.Expr.{Expr}
-use Rattle.helix_expr.specs.Matching.{Matches, MatchInOrder, MatchSome, Joined}
+use Rattle.helix_expr.specs.Matching.{Matches, MatchInOrder, Joined}
 use Rattle.helix_compile.specs.Inner.Alternatives.{AreAlternatives}
 use Rattle.helix_compile.specs.Inner.Nfa.{Grows, Builds}
 use Rattle.helix_compile.specs.Inner.Repeats.{UpToNumber}
