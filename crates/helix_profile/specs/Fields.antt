@@ -34,10 +34,12 @@ abbrev mutual
   relations_of (If' pointer condition other_pointer consequent otherwise) =
       relations_of_parts condition ++ (relations_of_parts consequent ++ relations_of_else otherwise)
 
+  -- the same of parts
   pub relations_of_parts : {m : _} → Row_of-Constraint m → List Relation
   relations_of_parts end_of-Constraint = []
   relations_of_parts (more_of-Constraint part parts) = relations_of part ++ relations_of_parts parts
 
+  -- the same of an `else`, where there is one
   pub relations_of_else : Held-Constraint-If-2 → List Relation
   relations_of_else None' = []
   relations_of_else (Some' pointer other) = relations_of_parts other

@@ -26,5 +26,6 @@ IsCycle relations (first ∷ second ∷ third ∷ fields) =
     AreDifferent (first ∷ second ∷ third ∷ fields) × IsPathTo relations first first (second ∷ third ∷ fields)
 IsCycle relations fields = ⊥
 
+-- no list of fields is a cycle
 abbrev pub IsForest : List Relation → Type 0
 IsForest relations = (fields : List ℕ) → ¬ IsCycle relations fields

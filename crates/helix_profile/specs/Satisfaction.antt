@@ -13,6 +13,7 @@ use Rattle.helix_profile.specs.Holds as value
 abbrev pub cell_at : List Cell → ℕ → Cell
 cell_at row field = slice_index_or row field cell.Null
 
+-- the cell is null
 abbrev pub is_null : Cell → Bool
 is_null cell.Null = true
 is_null value = false

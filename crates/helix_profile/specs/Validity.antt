@@ -100,10 +100,12 @@ abbrev mutual
   IsConstraintFor fields (If' pointer condition other_pointer consequent otherwise) =
       ArePartsFor fields condition × ArePartsFor fields consequent × IsElseFor fields otherwise
 
+  -- the same of parts
   pub ArePartsFor : {m : _} → List Field → Row_of-Constraint m → Type 0
   ArePartsFor fields end_of-Constraint = Unit {0}
   ArePartsFor fields (more_of-Constraint part parts) = IsConstraintFor fields part × ArePartsFor fields parts
 
+  -- the same of an `else`, where there is one
   pub IsElseFor : List Field → Held-Constraint-If-2 → Type 0
   IsElseFor fields None' = Unit {0}
   IsElseFor fields (Some' pointer other) = ArePartsFor fields other

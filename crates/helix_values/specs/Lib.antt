@@ -5,7 +5,7 @@ pub mod Codes
 pub mod Universe
 pub mod OwnLevel
 pub mod Slot
-pub mod Lending
+pub mod Borrowing
 pub mod Marks
 pub mod Counts
 pub mod UniverseLaws

@@ -3,7 +3,7 @@
 ghost use Rattle.std.specs.Prelude.{◌≡◌, ◌<◌, length, replicate, slice_index_or, slice_set, IfOk};
 ghost use Rattle.helix_values.specs.declared.cell.Cell.TheVariants as cells;
 ghost use Rattle.std.specs.Borrow.{sem};
-ghost use Rattle.helix_values.specs.Lending.{LendsSlot};
+ghost use Rattle.helix_values.specs.Borrowing.{BorrowsSlot};
 ghost use Rattle.helix_values.specs.Slot.{FitsSlot};
 ghost use Rattle.helix_values.specs.View.{cell_of};
 
@@ -58,7 +58,7 @@ impl RowBuf {
     /// Borrows the slot of a field for writing. The other cells stay.
     pub fn slot_mut(&mut self, i: usize) -> &mut Slot
         requires { i < length self.old }
-        ensures* writes_back { sem 𝓛 (LendsSlot self.entry i result) }
+        ensures* writes_back { sem 𝓛 (BorrowsSlot self.entry i result) }
         ensures value { result.now ≡ slice_index_or self.old i cells.Null }
     {
         &mut self.slots[i]

@@ -6,5 +6,5 @@ use Rattle.helix_values.specs.contracts.row_buf.RowBuf.{the_row}
 use Rattle.helix_values.specs.contracts.slot.Slot.{the_row as slot_row}
 
 -- the row ends with cell i as it is left in the slot, and its other cells as they were
-abbrev pub LendsSlot : MutBor (List Cell) → ℕ → MutBor Cell → Fml
-LendsSlot row i slot = Lends the_row slot_row row slot (slice_set row.now i)
+abbrev pub BorrowsSlot : MutBor (List Cell) → ℕ → MutBor Cell → Fml
+BorrowsSlot row i slot = Lends the_row slot_row row slot (slice_set row.now i)
