@@ -5,7 +5,7 @@ use Rattle.std.specs.BTreeMap.{is_at}
 use Rattle.helix_json.specs.declared.token.Token.{Token}
 use Rattle.helix_json.specs.Broken.{RepeatsKey, stays}
 use Rattle.helix_json.specs.Inner.Rules.{AreTokens, IsFirstAt}
-use Rattle.helix_json.specs.Inner.Scopes.{BeginsWithKey, Closes, Passes}
+use Rattle.helix_json.specs.Inner.Scopes.{BeginsWithKey, Closes, MovesScope}
 use Rattle.helix_json.proofs.Firsts.{NoneBefore, cut_at, found_at, none_more}
 use Rattle.helix_json.proofs.Stays.{stays-tokens}
 use Rattle.helix_json.proofs.Starts.{Nested, nested_start, nested_passes, inside}
@@ -77,7 +77,7 @@ module _ (all : List Token) (i start : ℕ) (t : Token) (outer : List ℕ) (here
     }
 
     pub checked_more : (old new : List KeyAt) (others : List ℕ) (next : ℕ) → Checked all i old outer start
-        → Next all i t new → Passes i t outer start others next
+        → Next all i t new → MovesScope i t outer start others next
         → Checked all (i + 1) new others next
     checked_more old new others next checked step passes =
         let k : i ≤ length all = omega arith in record {

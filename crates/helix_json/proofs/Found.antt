@@ -5,7 +5,7 @@ use Rattle.helix_json.specs.declared.fault.JsonFault.TheVariants as fault
 use Rattle.helix_json.specs.declared.value.Json.{Json}
 use Rattle.helix_json.specs.declared.token.Token.{Token}
 use Rattle.helix_json.specs.Broken.{BeginsAt, BeginsTooDeep, First, FirstIn, RepeatsKey, byte_offset}
-use Rattle.helix_json.specs.Inner.Reading.{Breaks}
+use Rattle.helix_json.specs.Inner.Reading.{BreaksRule}
 use Rattle.helix_json.specs.Inner.Rules.{IsFirstAt, HoldsNowhere}
 use Rattle.helix_json.specs.Inner.Scanned.{AreTokensOf}
 
@@ -25,7 +25,7 @@ module _ (text : List ℕ) (v : Json) (ts : List Token) (offsets : List ℕ) (sc
   )
 
   repeated : (i offset at : ℕ) → HoldsNowhere BeginsTooDeep ts → IsFirstAt RepeatsKey ts i
-      → offset ≡ get_or offsets i offset → at ≡ byte_offset text offset → Breaks text (fault.DuplicateKey at)
+      → offset ≡ get_or offsets i offset → at ≡ byte_offset text offset → BreaksRule text (fault.DuplicateKey at)
   repeated i offset at shallow first is offset_is = (
     v,
     offset,
@@ -38,7 +38,7 @@ module _ (text : List ℕ) (v : Json) (ts : List Token) (offsets : List ℕ) (sc
   pub repeated_key : (others again : List Token) (i offset at : ℕ) (found : Option ℕ) → others ≡ ts
       → HoldsNowhere BeginsTooDeep others → again ≡ ts → found ≡ Some i
       → IfSome found (IsFirstAt RepeatsKey again) → offset ≡ get_or offsets i offset → at ≡ byte_offset text offset
-      → Breaks text (fault.DuplicateKey at)
+      → BreaksRule text (fault.DuplicateKey at)
   repeated_key others again i offset at found a shallow b some first is offset_is =
       repeated i offset at (subst (HoldsNowhere BeginsTooDeep) a shallow)
       (subst (λ l. IsFirstAt RepeatsKey l i) b (subst (λ o. IfSome o (IsFirstAt RepeatsKey again)) some first)) is

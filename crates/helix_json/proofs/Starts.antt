@@ -5,7 +5,7 @@ use Rattle.std.proofs.lemmas.List.{drop_at, drop-append-le, drop_all, length_pus
 use Rattle.helix_json.specs.declared.token.Token.{Token}
 use Rattle.helix_json.specs.declared.token.Token.TheVariants as token
 use Rattle.helix_json.specs.Broken.{Opens, stays}
-use Rattle.helix_json.specs.Inner.Scopes.{Closes, Passes}
+use Rattle.helix_json.specs.Inner.Scopes.{Closes, MovesScope}
 use Rattle.helix_json.proofs.Stays.{stays_after, stays-back, still_open, closes_again, closes_none}
 
 -- after s of the tokens before it, each container that opened has closed again; and no fewer will do
@@ -158,7 +158,7 @@ nested_on outer others s next before t plain (e, f) h =
     (subst (λ n. Nested (reverse outer) n (before ++ t ∷ [])) (sym f) (nested_same (reverse outer) s before t plain h))
 
 pub nested_passes : (outer others : List ℕ) (s next i : ℕ) (before : List Token) (t : Token) → i ≡ length before
-    → Passes i t outer s others next
+    → MovesScope i t outer s others next
     → Nested (reverse outer) s before → Nested (reverse others) next (before ++ t ∷ [])
 nested_passes outer others s next i before token.OpenList n p h =
     nested_open outer others s next i before token.OpenList n tt p h

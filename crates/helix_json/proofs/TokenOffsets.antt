@@ -6,14 +6,14 @@ use Rattle.helix_json.specs.Text.{is_blank, SpellsToken, Cuts}
 use Rattle.helix_json.specs.Broken.{BeginsAt}
 use Rattle.helix_json.specs.Inner.Lexer.{between, lex, prepend}
 use Rattle.helix_json.specs.Inner.Machine.{Reading}
-use Rattle.helix_json.specs.Inner.Progress.{IsReadTo, Begins, AllBegin}
+use Rattle.helix_json.specs.Inner.Progress.{IsReadTo, BeginsToken, AllBegin}
 use Rattle.helix_json.proofs.NumberGrammar.{true_not_false}
 use Rattle.helix_json.proofs.Sound.{sound}
 use Rattle.helix_json.proofs.Viable.{unprepend_all}
 use Rattle.helix_json.proofs.SyntaxErrors.{split_at}
 
 pub begins_there : (text : List ℕ) (at : ℕ) (ds : List Token) (r : Reading) → at < length text → IsReadTo text at ds r
-    → is_blank (get_or text at 0) ≡ false → Begins text ds at
+    → is_blank (get_or text at 0) ≡ false → BeginsToken text ds at
 begins_there text at ds r within is_read no_blank = record {
   within = within;
   alone = is_read.alone;
@@ -24,15 +24,15 @@ begins_there text at ds r within is_read no_blank = record {
 }
 
 pub all_begin-push : (text : List ℕ) (before ts : List Token) (ps : List ℕ) (t : Token) (p : ℕ)
-    → AllBegin text before ts ps → Begins text (before ++ ts) p
+    → AllBegin text before ts ps → BeginsToken text (before ++ ts) p
     → AllBegin text before (ts ++ t ∷ []) (ps ++ p ∷ [])
-all_begin-push text before [] [] t p all here = (subst (λ l. Begins text l p) (append-nil before) here, tt)
+all_begin-push text before [] [] t p all here = (subst (λ l. BeginsToken text l p) (append-nil before) here, tt)
 all_begin-push text before [] (q ∷ ps) t p all here = absurd all
 all_begin-push text before (u ∷ ts) [] t p all here = absurd all
 all_begin-push text before (u ∷ ts) (q ∷ ps) t p all here = (
   all.0,
   all_begin-push text (before ++ u ∷ []) ts ps t p all.1
-      (subst (λ l. Begins text l p) (sym (append_assoc before (u ∷ []) ts)) here),
+      (subst (λ l. BeginsToken text l p) (sym (append_assoc before (u ∷ []) ts)) here),
 )
 
 pub each_offset : (text : List ℕ) (before ts : List Token) (ps : List ℕ) → AllBegin text before ts ps
@@ -44,16 +44,16 @@ each_offset text before (u ∷ ts) (q ∷ ps) all = ap suc (each_offset text (be
 
 all_begin_at : (text : List ℕ) (before ts : List Token) (ps : List ℕ) → AllBegin text before ts ps
     → (prefix : List Token) (t : Token) (rest : List Token) → ts ≡ prefix ++ t ∷ rest
-    → Begins text (before ++ prefix) (get_or ps (length prefix) 0)
+    → BeginsToken text (before ++ prefix) (get_or ps (length prefix) 0)
 all_begin_at text before [] ps all [] t rest is = cc
 all_begin_at text before [] ps all (u ∷ prefix) t rest is = cc
 all_begin_at text before (v ∷ ts) [] all prefix t rest is = absurd all
 all_begin_at text before (v ∷ ts) (p ∷ ps) all [] t rest is =
-    subst (λ l. Begins text l p) (sym (append-nil before)) all.0
+    subst (λ l. BeginsToken text l p) (sym (append-nil before)) all.0
 all_begin_at text before (v ∷ ts) (p ∷ ps) all (u ∷ prefix) t rest is =
     let tail : ts ≡ prefix ++ t ∷ rest = cc in
     let head : v ≡ u = cc in
-    subst (λ l. Begins text l (get_or ps (length prefix) 0))
+    subst (λ l. BeginsToken text l (get_or ps (length prefix) 0))
     (append_assoc before (v ∷ []) prefix ∙ ap (λ x. before ++ x ∷ prefix) head)
     (all_begin_at text (before ++ v ∷ []) ts ps all.1 prefix t rest tail)
 
@@ -66,7 +66,7 @@ no_blanks c cs text t rest no_blank begins ([], piece, later, is, blanks, spells
 no_blanks c cs text t rest no_blank begins (b ∷ bs, piece, later, is, blanks, spells, others) =
     let same : b ≡ c = cc in absurd (true_not_false (sym blanks.0 ∙ (ap is_blank same ∙ no_blank)))
 
-begins_at : (text : List ℕ) (before : List Token) (t : Token) (rest : List Token) (p : ℕ) → Begins text before p
+begins_at : (text : List ℕ) (before : List Token) (t : Token) (rest : List Token) (p : ℕ) → BeginsToken text before p
     → lex text between ≡ Some (before ++ t ∷ rest) → BeginsAt text before t rest p
 begins_at text before t rest p begins reads =
     let (us, later, both) = unprepend_all before (lex (drop p text) between) (before ++ t ∷ rest) (sym begins.on

@@ -9,7 +9,7 @@ use Rattle.helix_json.specs.declared.token.Token.{Token}
 use Rattle.helix_json.specs.Tokens.{tokens}
 use Rattle.helix_json.specs.Text.{SpellsText}
 use Rattle.helix_json.specs.Broken.{AreBytesOf, SpellsJson, FirstIn, FirstBroken, IsShort, Nowhere}
-use Rattle.helix_json.specs.Inner.Reading.{Breaks, IsSound}
+use Rattle.helix_json.specs.Inner.Reading.{BreaksRule, IsSound}
 use Rattle.helix_json.specs.Values.{HasNoRepeatedKey, nesting}
 use Rattle.helix_json.proofs.KeyRules.{keyed_value}
 use Rattle.helix_json.proofs.Lexing.{one_value}
@@ -48,7 +48,7 @@ unbroken bytes text v short are sound (fault.DuplicateKey at) (
     sound.keyed first
 unbroken bytes text v short are sound fault.Memory h = h
 
-broken : (bytes text : List ℕ) → IsShort bytes → AreBytesOf text bytes → (f : JsonFault) → Breaks text f
+broken : (bytes text : List ℕ) → IsShort bytes → AreBytesOf text bytes → (f : JsonFault) → BreaksRule text f
     → f ≢ fault.Memory → FirstBroken bytes f
 broken bytes text short are fault.TooLong b ne = absurd b
 broken bytes text short are (fault.NotUtf8 at) b ne = absurd b
@@ -78,7 +78,7 @@ module _ (bytes text : List ℕ) (short : IsShort bytes) (are : AreBytesOf text 
   on_unbroken (Ok v) sound = unbroken bytes text v short are sound
   on_unbroken (Err f) sound = tt
 
-  pub on_broken : (r : Result Json JsonFault) → IfErr r (Breaks text)
+  pub on_broken : (r : Result Json JsonFault) → IfErr r (BreaksRule text)
       → IfErr r (λ f. f ≢ fault.Memory → FirstBroken bytes f)
   on_broken (Ok v) b = tt
   on_broken (Err f) b = broken bytes text short are f b

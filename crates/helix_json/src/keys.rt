@@ -3,7 +3,7 @@
 ghost use Rattle.std.specs.Prelude.{◌≡◌, ◌<◌, ◌^◌, ℕ, List, length, IfOk, IfSome, IfNone};
 ghost use Rattle.helix_json.specs.Broken.{RepeatsKey};
 ghost use Rattle.helix_json.specs.Inner.Rules.{AreTokens, IsFirstAt, HoldsNowhere};
-ghost use Rattle.helix_json.specs.Inner.Scopes.{BeginsWithKey, Closes, Passes};
+ghost use Rattle.helix_json.specs.Inner.Scopes.{BeginsWithKey, Closes, MovesScope};
 
 use crate::token::Token;
 use helix_base::Memory;
@@ -47,7 +47,7 @@ fn leading_key(tokens: &[Token]) -> Option<&[u32]>
 fn pass(i: usize, token: &Token, outer: &mut Vec<usize>, start: usize) -> Result<usize, Memory>
     requires fits { i < 2 ^ 63 }
     requires inside { Closes token.now → 0 < length outer.old.items }
-    ensures { IfOk result (λ next. Passes i token.now outer.old.items start outer.new.items next) }
+    ensures { IfOk result (λ next. MovesScope i token.now outer.old.items start outer.new.items next) }
 {
     match token {
         Token::OpenList | Token::OpenObject => {

@@ -5,7 +5,7 @@ ghost use Rattle.std.specs.Str.{all_scalars};
 ghost use Rattle.helix_json.specs.declared.fault.JsonFault.{JsonFault as Fault};
 ghost use Rattle.helix_json.specs.declared.value.Json.{Json as Value};
 ghost use Rattle.helix_json.specs.Broken.{FirstBroken, SpellsJson, byte_offset, max_depth};
-ghost use Rattle.helix_json.specs.Inner.Reading.{Breaks, IsSound};
+ghost use Rattle.helix_json.specs.Inner.Reading.{BreaksRule, IsSound};
 ghost use Rattle.helix_json.specs.Inner.Scanned.{AreTokensOf};
 ghost use Rattle.helix_json.specs.Values.{HasNoRepeatedKey, nesting};
 
@@ -51,7 +51,7 @@ fn read_text(alloc: Global, codes: &[u32]) -> Result<Json, JsonFault>
     requires scalars { IsTrue (all_scalars codes.now) }
     requires short { length codes.now ≤ 1048576 }
     ensures sound { IfOk result (IsSound codes.now) }
-    ensures broken { IfErr result (Breaks codes.now) }
+    ensures broken { IfErr result (BreaksRule codes.now) }
 {
     match scan(alloc, codes)? {
         Scan::Tokens(scanned) => value_of(alloc, codes, scanned),
@@ -67,7 +67,7 @@ fn value_of(alloc: Global, codes: &[u32], scanned: Scanned) -> Result<Json, Json
     requires short { length codes.now ≤ 1048576 }
     requires scanned { (value : Value) × AreTokensOf codes.now value scanned.tokens.items scanned.offsets.items }
     ensures sound { IfOk result (IsSound codes.now) }
-    ensures broken { IfErr result (Breaks codes.now) }
+    ensures broken { IfErr result (BreaksRule codes.now) }
 {
     if let Some(i) = first_too_deep(scanned.tokens.as_slice()) {
         return Err(JsonFault::TooDeep {

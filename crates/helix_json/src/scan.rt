@@ -5,7 +5,7 @@ ghost use Rattle.std.specs.Str.{all_scalars};
 ghost use Rattle.helix_json.specs.declared.class.Class.TheVariants as class_is;
 ghost use Rattle.helix_json.specs.Inner.Lexer.{class, mark_token, word_token};
 ghost use Rattle.helix_json.specs.Inner.Need.{kind_of_token};
-ghost use Rattle.helix_json.specs.Inner.Progress.{HoldsSoFarAt, LeadsOn};
+ghost use Rattle.helix_json.specs.Inner.Progress.{HoldsSoFarAt, GoesOn};
 ghost use Rattle.helix_json.specs.Inner.Scanned.{IsScan};
 
 use crate::class::{Class, Mark, Word, class_of};
@@ -46,7 +46,7 @@ fn read(alloc: Global, codes: &[u32], at: usize, progress: &mut Progress) -> Res
     requires scalars { IsTrue (all_scalars codes.now) }
     requires within { at < length codes.now }
     requires holds { HoldsSoFarAt codes.now at progress.old }
-    ensures { IfOk result (LeadsOn codes.now at progress.new) }
+    ensures { IfOk result (GoesOn codes.now at progress.new) }
 {
     match class_of(codes[at]) {
         Class::Blank => Ok(Step::On(at + 1)),
@@ -73,7 +73,7 @@ fn take_string(
     requires within { at < length codes.now }
     requires holds { HoldsSoFarAt codes.now at progress.old }
     requires class_is { class (slice_index codes.now at) ≡ class_is.Quote }
-    ensures { IfOk result (LeadsOn codes.now at progress.new) }
+    ensures { IfOk result (GoesOn codes.now at progress.new) }
 {
     if !progress.nest.allow(TokenKind::Str)? {
         return Ok(Step::SyntaxError(at));
@@ -91,7 +91,7 @@ fn take_word(codes: &[u32], at: usize, word: Word, progress: &mut Progress) -> R
     requires within { at < length codes.now }
     requires holds { HoldsSoFarAt codes.now at progress.old }
     requires class_is { class (slice_index codes.now at) ≡ (class_is.Word word) }
-    ensures { IfOk result (LeadsOn codes.now at progress.new) }
+    ensures { IfOk result (GoesOn codes.now at progress.new) }
 {
     if !progress.nest.allow(TokenKind::Scalar)? {
         return Ok(Step::SyntaxError(at));
@@ -115,7 +115,7 @@ fn take_number(
     requires within { at < length codes.now }
     requires holds { HoldsSoFarAt codes.now at progress.old }
     requires class_is { class (slice_index codes.now at) ≡ class_is.Other }
-    ensures { IfOk result (LeadsOn codes.now at progress.new) }
+    ensures { IfOk result (GoesOn codes.now at progress.new) }
 {
     let Some(first) = next_number_state(NumberState::Nothing, kind_of_code(codes[at])) else {
         return Ok(Step::SyntaxError(at));

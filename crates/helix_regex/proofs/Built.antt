@@ -15,7 +15,7 @@ use Rattle.helix_regex.specs.Meaning.{item_has, single_has, number_of, quantifie
 use Rattle.helix_regex.specs.Faults.{is_bad_count}
 use Rattle.helix_regex.specs.Inner.Tokens.{item_tokens, single_tokens, capped, quant_tokens}
 use Rattle.helix_regex.specs.Inner.Sets.{Gains}
-use Rattle.helix_regex.specs.Inner.Building.{Same, Pushes, PushesSet, Gained, class_has, Repeats, Steps, Runs}
+use Rattle.helix_regex.specs.Inner.Building.{Same, Pushes, PushesSet, Gained, class_has, RepeatsLast, Steps, Runs}
 use Rattle.helix_regex.proofs.CountRule.{low}
 use Rattle.helix_regex.proofs.Counted.{third}
 
@@ -140,8 +140,8 @@ single_run (class false items) at b m r (n, begins, h) =
 -- a quantifier after a piece
 repeated : (e : Expr) (least : ℕ) (most : Option ℕ) (a b c : Builder) → Pushes e a b
     → ((prefix : List Expr) (piece : Expr) → b.pieces ≡ prefix ++ piece ∷ []
-    → Repeats prefix (Repeat piece least most) b c) → Pushes (Repeat e least most) a c
-repeated e least most a b c h k = let s : Repeats a.pieces (Repeat e least most) b c = k a.pieces e h.pieces in
+    → RepeatsLast prefix (Repeat piece least most) b c) → Pushes (Repeat e least most) a c
+repeated e least most a b c h k = let s : RepeatsLast a.pieces (Repeat e least most) b c = k a.pieces e h.pieces in
     record { outer = s.outer ∙ h.outer; done = s.done ∙ h.done; pieces = s.pieces }
 
 same_piece : (e f : Expr) (a b : Builder) → e ≡ f → Pushes e a b → Pushes f a b

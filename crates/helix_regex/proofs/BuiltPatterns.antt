@@ -11,7 +11,7 @@ use Rattle.helix_regex.specs.Pattern.{once, Pattern, end, bar, caret, dollar, on
 use Rattle.helix_regex.specs.Meaning.{quantified, in_sequence, any_of, Parts, together, after_bar, with_piece, HasParts, has_caret, has_dollar, MeansRegex}
 use Rattle.helix_regex.specs.Faults.{offset_if, piece_text, group_text, is_bad_count, bad_counts}
 use Rattle.helix_regex.specs.Inner.Tokens.{single_tokens, quant_tokens, tokens}
-use Rattle.helix_regex.specs.Inner.Building.{choice, sequences, Same, Pushes, Ends, Opens, Closes, Runs, IsBuilt}
+use Rattle.helix_regex.specs.Inner.Building.{choice, sequences, Same, Pushes, Ends, OpensGroup, ClosesGroup, Runs, IsBuilt}
 use Rattle.helix_regex.proofs.Counted.{good_first, none_of}
 use Rattle.helix_regex.proofs.Built.{single_run, quant_run}
 
@@ -59,11 +59,11 @@ choice_is e (f ∷ es) = refl
 abbrev level_of : Builder → Level
 level_of b = record { done = b.done; pieces = b.pieces }
 
-group_closes : (parts : Parts) (a b n c : Builder) → Opens a b → Adds parts b n
-    → ((outer : List Level) (level : Level) → n.outer ≡ outer ++ level ∷ [] → Closes outer level n c)
+group_closes : (parts : Parts) (a b n c : Builder) → OpensGroup a b → Adds parts b n
+    → ((outer : List Level) (level : Level) → n.outer ≡ outer ++ level ∷ [] → ClosesGroup outer level n c)
     → Pushes (together parts) a c
 group_closes parts a b n c opens adds closes =
-    let s : Closes a.outer (level_of a) n c = closes a.outer (level_of a) (adds.outer ∙ opens.outer) in
+    let s : ClosesGroup a.outer (level_of a) n c = closes a.outer (level_of a) (adds.outer ∙ opens.outer) in
     let all : sequences n ≡ in_sequence parts.pieces ∷ parts.others = adds.all
     ∙ (ap (λ d. d ++ in_sequence (b.pieces ++ parts.pieces) ∷ parts.others) opens.done
     ∙ ap (λ l. in_sequence (l ++ parts.pieces) ∷ parts.others) opens.pieces) in

@@ -2,7 +2,7 @@
 
 ghost use Rattle.std.specs.Prelude.{◌≡◌, ◌++◌, [], ◌∷◌, length, IfOk};
 ghost use Rattle.helix_regex.specs.Meaning.{in_sequence};
-ghost use Rattle.helix_regex.specs.Inner.Building.{choice, Steps, Pushes, Opens, Ends};
+ghost use Rattle.helix_regex.specs.Inner.Building.{choice, Steps, Pushes, OpensGroup, Ends};
 ghost use Rattle.helix_regex.specs.declared.token.Token.TheVariants.{Close, Repeat};
 
 use helix_base::Memory;
@@ -100,9 +100,9 @@ pub fn push_piece(builder: Builder, piece: Expr) -> Result<Builder, Memory>
     Ok(builder)
 }
 
-/// Begins a group inside of what is built so far.
+/// BeginsClass a group inside of what is built so far.
 pub fn open_group(alloc: Global, builder: Builder) -> Result<Builder, Memory>
-    ensures { IfOk result (Opens builder) }
+    ensures { IfOk result (OpensGroup builder) }
 {
     let Builder {
         mut outer,
@@ -179,7 +179,7 @@ pub fn end_sequence(alloc: Global, builder: Builder) -> Result<Builder, Memory>
     })
 }
 
-/// Repeats the last piece.
+/// RepeatsLast the last piece.
 pub fn repeat_last(
     alloc: Global,
     builder: Builder,

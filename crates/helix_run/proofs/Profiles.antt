@@ -1,7 +1,7 @@
 -- What is found in the bytes of a profile file is what they say, and where nothing is found they are refused.
 use Rattle.std.proofs.Common.{◌≡◌, ◌≢◌, ℕ, ◌≤◌, Bool, List, [], length, refl, sym, ◌∙◌}
 use Rattle.std.specs.Prelude.{Option, Some, None, IfNone}
-use Rattle.helix_run.specs.Profile.{Field, Follows, Closes, ReadsProfile, IsRefused, IsFlagName, before_name, after_name, quoted_before}
+use Rattle.helix_run.specs.Profile.{Field, Follows, SaysNullable, ReadsProfile, IsRefused, IsFlagName, before_name, after_name, quoted_before}
 use Rattle.helix_run.specs.Inner.Pattern.{after}
 use Rattle.helix_run.proofs.Patterns.{Follows-from_after, after-from_Follows}
 use Rattle.helix_run.proofs.Names.{same_quoted}
@@ -39,7 +39,7 @@ module _ {X : Type 0} (bytes : List ℕ) (result : Option X) where
 -- what was found
 pub ReadsProfile-found : (bytes prefix : List ℕ) (field : Field) (rest : List ℕ) → length bytes ≤ 1048576
     → Some prefix ≡ after before_name bytes
-    → IsFlagName field.name → prefix ≡ quoted_before field.name rest → Closes rest field.nullable
+    → IsFlagName field.name → prefix ≡ quoted_before field.name rest → SaysNullable rest field.nullable
     → ReadsProfile bytes field
 ReadsProfile-found bytes prefix field rest size found is spelled closes = record {
   size = size;

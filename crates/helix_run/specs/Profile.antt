@@ -47,7 +47,7 @@ abbrev pub quoted_before : List ℕ → List ℕ → List ℕ
 quoted_before name rest = 34 ∷ (name ++ 34 ∷ rest)
 
 -- what comes after the name says whether the field is nullable, which it is where nothing is said
-pub record Closes (bytes : List ℕ) (nullable : Bool) : Type 0 where
+pub record SaysNullable (bytes : List ℕ) (nullable : Bool) : Type 0 where
   pub written : Option Bool
   pub says : nullable ≡ unwrap_or written true
   pub closes : Follows (after_name written) bytes []
@@ -58,7 +58,7 @@ pub record ReadsProfile (bytes : List ℕ) (field : Field) : Type 0 where
   pub name : IsFlagName field.name
   pub rest : List ℕ
   pub opens : Follows before_name bytes (quoted_before field.name rest)
-  pub closes : Closes rest field.nullable
+  pub closes : SaysNullable rest field.nullable
 
 -- the bytes are no such profile
 abbrev pub IsRefused : List ℕ → Type 0

@@ -1,7 +1,7 @@
 //! The profile files that are accepted so far: one boolean field, and no constraints.
 
 ghost use Rattle.std.specs.Prelude.{◌≡◌, ◌≢◌, ℕ, List, Bool, [], Option, IfSome, IfNone, MatchOption, length, ◌≤◌};
-ghost use Rattle.helix_run.specs.Profile.{ReadsProfile, IsRefused, IsFlagName, quoted_before, after_name, Follows, Closes, is_name_character};
+ghost use Rattle.helix_run.specs.Profile.{ReadsProfile, IsRefused, IsFlagName, quoted_before, after_name, Follows, SaysNullable, is_name_character};
 ghost use Rattle.helix_run.specs.Inner.Name.{name_length, field_of};
 
 use crate::pattern::{after, follows};
@@ -67,7 +67,7 @@ fn is_name_character(byte: u8) -> bool
 
 /// What the bytes after the name say of null, or `None` where they are not written as they have to be.
 fn nullable_of(bytes: &[u8]) -> Option<bool>
-    ensures says { IfSome result (Closes bytes.now) }
+    ensures says { IfSome result (SaysNullable bytes.now) }
     ensures none { IfNone result ((written : Option Bool) → ¬ Follows (after_name written) bytes.now []) }
 {
     if follows(

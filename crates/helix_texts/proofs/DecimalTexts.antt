@@ -7,7 +7,7 @@ use Rattle.helix_json.specs.Numbers.{IsWhole, digits_from, digits_value}
 use Rattle.helix_base.specs.Digits.{AreDigits}
 use Rattle.helix_base.specs.Inner.DigitLaws.{digit_within, digits_push}
 use Rattle.helix_json.specs.Inner.DecimalLaws.{from-append, pow_more, some_power}
-use Rattle.helix_texts.specs.Texts.{last_digits, kept, without_zeros}
+use Rattle.helix_texts.specs.Texts.{last_digits, before_rest, without_zeros}
 
 -- the digits of a number from 10 on don't begin with 0, and there is one below
 abbrev BeginsWell : ℕ → List ℕ → Type 0
@@ -83,11 +83,12 @@ pub record LeavesZeros (x : ℕ) (cs left : List ℕ) : Type 0 where
   pub lengths : length cs ≡ length left + zeros
   pub value : digits_from x cs ≡ digits_from x left * 10 ^ zeros
 
-kept_by : (c : ℕ) (b : Bool) → (c == 48) ≡ b → ((c ≡ 48) × (kept c [] ≡ [])) ⊎ (kept c [] ≡ c ∷ [])
+kept_by : (c : ℕ) (b : Bool) → (c == 48) ≡ b → ((c ≡ 48) × (before_rest c [] ≡ [])) ⊎ (before_rest c [] ≡ c ∷ [])
 kept_by c true is = inl (grind (arith, nat_tests), rw is refl)
 kept_by c false is = inr (rw is refl)
 
-pub kept_cases : (c : ℕ) (left : List ℕ) → ((c ≡ 48) × (left ≡ []) × (kept c left ≡ [])) ⊎ (kept c left ≡ c ∷ left)
+pub kept_cases : (c : ℕ) (left : List ℕ) → ((c ≡ 48) × (left ≡ []) × (before_rest c left ≡ []))
+    ⊎ (before_rest c left ≡ c ∷ left)
 kept_cases c [] = elim (kept_by c (c == 48) refl) [ inl gone ↦ inl (gone.0, refl, gone.1) | inr stays ↦ inr stays ]
 kept_cases c (d ∷ ds) = inr refl
 

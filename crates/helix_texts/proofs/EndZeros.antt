@@ -7,22 +7,22 @@ use Rattle.std.proofs.Math.Nat.{pow-suc, pow-succ', div-div-eq-div-mul, div-lt_i
 use Rattle.std.proofs.lemmas.Bool.{cases_lt}
 use Rattle.std.proofs.lemmas.Nat.{pow-add}
 use Rattle.helix_json.specs.Inner.DecimalLaws.{pow_more, some_power}
-use Rattle.helix_texts.specs.Texts.{last_digits, kept, without_zeros}
+use Rattle.helix_texts.specs.Texts.{last_digits, before_rest, without_zeros}
 use Rattle.helix_texts.proofs.DecimalTexts.{kept_cases, last_digits-suc}
 
 -- a zero more changes nothing
 zero_more : (ds : List ℕ) → without_zeros (ds ++ 48 ∷ []) ≡ without_zeros ds
 zero_more [] = refl
-zero_more (d ∷ ds) = ap (kept d) (zero_more ds)
+zero_more (d ∷ ds) = ap (before_rest d) (zero_more ds)
 
 -- another digit keeps all
-kept_some : (d : ℕ) (ds : List ℕ) (c : ℕ) → kept d (ds ++ c ∷ []) ≡ d ∷ (ds ++ c ∷ [])
+kept_some : (d : ℕ) (ds : List ℕ) (c : ℕ) → before_rest d (ds ++ c ∷ []) ≡ d ∷ (ds ++ c ∷ [])
 kept_some d [] c = refl
 kept_some d (e ∷ ds) c = refl
 
 digit_more : (ds : List ℕ) (c : ℕ) → c ≢ 48 → without_zeros (ds ++ c ∷ []) ≡ ds ++ c ∷ []
 digit_more [] c some = elim (kept_cases c []) [ inl gone ↦ absurd (some gone.0) | inr stays ↦ stays ]
-digit_more (d ∷ ds) c some = ap (kept d) (digit_more ds c some) ∙ kept_some d ds c
+digit_more (d ∷ ds) c some = ap (before_rest d) (digit_more ds c some) ∙ kept_some d ds c
 
 pub zero_left_out : (width n : ℕ) → 0 < width → n % 10 ≡ 0
     → without_zeros (last_digits width n) ≡ without_zeros (last_digits (width - 1) (n / 10))

@@ -12,15 +12,15 @@ unfoldable pub last_digits : ℕ → ℕ → List ℕ
 last_digits zero n = []
 last_digits (suc width) n = last_digits width (n / 10) ++ (48 + n % 10) ∷ []
 
--- a digit in prefix of what is left of the digits after it: a zero with nothing after it goes
-abbrev pub kept : ℕ → List ℕ → List ℕ
-kept c [] = if c == 48 then [] else c ∷ []
-kept c (d ∷ ds) = c ∷ d ∷ ds
+-- a digit before what is left of the digits after it: a zero with nothing after it goes
+abbrev pub before_rest : ℕ → List ℕ → List ℕ
+before_rest c [] = if c == 48 then [] else c ∷ []
+before_rest c (d ∷ ds) = c ∷ d ∷ ds
 
 -- digits without the zeros at their end
 abbrev pub without_zeros : List ℕ → List ℕ
 without_zeros [] = []
-without_zeros (c ∷ cs) = kept c (without_zeros cs)
+without_zeros (c ∷ cs) = before_rest c (without_zeros cs)
 
 -- the number is below 0
 abbrev pub is_negative : ℤ → Bool

@@ -38,7 +38,7 @@ pub record IsReadTo (text : List ℕ) (at : ℕ) (ds : List Token) (r : Reading)
   pub viable : IsViablePrefix IsJsonText (take at text)
 
 -- after those tokens the next one begins there
-pub record Begins (text : List ℕ) (before : List Token) (offset : ℕ) : Type 0 where
+pub record BeginsToken (text : List ℕ) (before : List Token) (offset : ℕ) : Type 0 where
   pub within : offset < length text
   pub alone : lex (take offset text) between ≡ Some before
   pub on : lex text between ≡ prepend before (lex (drop offset text) between)
@@ -49,7 +49,7 @@ abbrev pub AllBegin : List ℕ → List Token → List Token → List ℕ → Ty
 AllBegin text before [] [] = Unit {0}
 AllBegin text before [] (p ∷ ps) = ⊥
 AllBegin text before (t ∷ ts) [] = ⊥
-AllBegin text before (t ∷ ts) (p ∷ ps) = Begins text before p × AllBegin text (before ++ t ∷ []) ts ps
+AllBegin text before (t ∷ ts) (p ∷ ps) = BeginsToken text before p × AllBegin text (before ++ t ∷ []) ts ps
 
 -- what is kept between two tokens
 pub record HoldsSoFar (text : List ℕ) (at : ℕ) (tokens : List Token) (offsets : List ℕ) (nest : Nest) : Type 0 where
@@ -62,6 +62,6 @@ abbrev pub HoldsSoFarAt : List ℕ → ℕ → Progress → Type 0
 HoldsSoFarAt text at p = HoldsSoFar text at p.tokens.items p.offsets.items p.nest
 
 -- where a token or a blank leads
-abbrev pub LeadsOn : List ℕ → ℕ → Progress → Step → Type 0
-LeadsOn text at new (step_is.On next) = (at < next) × HoldsSoFarAt text next new
-LeadsOn text at new (step_is.SyntaxError count) = IsSyntaxErrorAt IsJsonText text count
+abbrev pub GoesOn : List ℕ → ℕ → Progress → Step → Type 0
+GoesOn text at new (step_is.On next) = (at < next) × HoldsSoFarAt text next new
+GoesOn text at new (step_is.SyntaxError count) = IsSyntaxErrorAt IsJsonText text count

@@ -14,12 +14,13 @@ pub record IsSound (text : List ℕ) (value : Json) : Type 0 where
   pub keyed : Nowhere RepeatsKey value
 
 -- the first of the rules J3 to J5 that the text breaks, with its offset; nothing is known where memory ran out
-abbrev pub Breaks : List ℕ → JsonFault → Type 0
-Breaks text (fault.Grammar at) = (count : ℕ) × IsSyntaxErrorAt IsJsonText text count × (at ≡ byte_offset text count)
-Breaks text (fault.TooDeep at) = (value : Json) × (count : ℕ) × SpellsText text value
+abbrev pub BreaksRule : List ℕ → JsonFault → Type 0
+BreaksRule text (fault.Grammar at) = (count : ℕ) × IsSyntaxErrorAt IsJsonText text count × (at ≡ byte_offset text count)
+BreaksRule text (fault.TooDeep at) = (value : Json) × (count : ℕ) × SpellsText text value
     × FirstIn BeginsTooDeep text value count × (at ≡ byte_offset text count)
-Breaks text (fault.DuplicateKey at) = (value : Json) × (count : ℕ) × SpellsText text value × Nowhere BeginsTooDeep value
+BreaksRule text (fault.DuplicateKey at) = (value : Json) × (count : ℕ) × SpellsText text value
+    × Nowhere BeginsTooDeep value
     × FirstIn RepeatsKey text value count
     × (at ≡ byte_offset text count)
-Breaks text fault.Memory = Unit {0}
-Breaks text _ = ⊥
+BreaksRule text fault.Memory = Unit {0}
+BreaksRule text _ = ⊥

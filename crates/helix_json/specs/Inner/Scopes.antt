@@ -10,12 +10,12 @@ Closes _ = ⊥
 
 -- the token with this number leads from inside of the innermost container, which starts there with the outer ones, to
 -- the next one's
-abbrev pub Passes : ℕ → Token → List ℕ → ℕ → List ℕ → ℕ → Type 0
-Passes i token.OpenList outer start others next = (others ≡ outer ++ start ∷ []) × (next ≡ i + 1)
-Passes i token.OpenObject outer start others next = (others ≡ outer ++ start ∷ []) × (next ≡ i + 1)
-Passes i token.CloseList outer start others next = outer ≡ others ++ next ∷ []
-Passes i token.CloseObject outer start others next = outer ≡ others ++ next ∷ []
-Passes i _ outer start others next = (others ≡ outer) × (next ≡ start)
+abbrev pub MovesScope : ℕ → Token → List ℕ → ℕ → List ℕ → ℕ → Type 0
+MovesScope i token.OpenList outer start others next = (others ≡ outer ++ start ∷ []) × (next ≡ i + 1)
+MovesScope i token.OpenObject outer start others next = (others ≡ outer ++ start ∷ []) × (next ≡ i + 1)
+MovesScope i token.CloseList outer start others next = outer ≡ others ++ next ∷ []
+MovesScope i token.CloseObject outer start others next = outer ≡ others ++ next ∷ []
+MovesScope i _ outer start others next = (others ≡ outer) × (next ≡ start)
 
 -- tokens begin with this key and its colon
 abbrev pub BeginsWithKey : List Token → List ℕ → Type 0

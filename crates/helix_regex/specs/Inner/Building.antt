@@ -48,7 +48,7 @@ abbrev pub class_has : Bool → List (ℕ × ℕ) → ℕ → Bool
 class_has true raw c = is_character c && not (in_ranges raw c)
 class_has false raw c = in_ranges raw c
 
-pub record Begins (old new : Builder) : Type 0 where
+pub record BeginsClass (old new : Builder) : Type 0 where
   pub same : Same old new
   pub raw : new.raw.items ≡ []
   pub excluded : new.excluded ≡ false
@@ -63,18 +63,18 @@ pub record Ends (old new : Builder) : Type 0 where
   pub done : new.done ≡ sequences old
   pub pieces : new.pieces ≡ []
 
-pub record Opens (old new : Builder) : Type 0 where
+pub record OpensGroup (old new : Builder) : Type 0 where
   pub outer : new.outer ≡ old.outer ++ record { done = old.done; pieces = old.pieces } ∷ []
   pub done : new.done ≡ []
   pub pieces : new.pieces ≡ []
 
-pub record Closes (around : List Level) (level : Level) (old new : Builder) : Type 0 where
+pub record ClosesGroup (around : List Level) (level : Level) (old new : Builder) : Type 0 where
   pub outer : new.outer ≡ around
   pub done : new.done ≡ level.done
   pub pieces : new.pieces ≡ level.pieces ++ choice (sequences old) ∷ []
 
 -- the last piece is repeated
-pub record Repeats (prefix : List Expr) (piece : Expr) (old new : Builder) : Type 0 where
+pub record RepeatsLast (prefix : List Expr) (piece : Expr) (old new : Builder) : Type 0 where
   pub outer : new.outer ≡ old.outer
   pub done : new.done ≡ old.done
   pub pieces : new.pieces ≡ prefix ++ piece ∷ []
@@ -83,20 +83,20 @@ abbrev pub Steps : Builder → Token → Builder → Type 0
 Steps old (token.Bar at) new = Ends old new
 Steps old (token.Caret at) new = Same old new
 Steps old (token.Dollar at) new = Same old new
-Steps old token.Open new = Opens old new
+Steps old token.Open new = OpensGroup old new
 Steps old token.Close new = (outer : List Level) (level : Level) → old.outer ≡ outer ++ level ∷ []
-    → Closes outer level old new
+    → ClosesGroup outer level old new
 Steps old (token.Literal code) new = PushesSet (λ c. c == code) old new
 Steps old token.Dot new = PushesSet (λ c. is_character c) old new
 Steps old (token.Set letter) new = PushesSet (set_has letter) old new
-Steps old token.ClassStart new = Begins old new
+Steps old token.ClassStart new = BeginsClass old new
 Steps old token.Exclude new = Excludes old new
 Steps old (token.Item code) new = Gained (λ c. c == code) old new
 Steps old (token.Range first last at) new = Gained (λ c. is_character c && is_in_range c (first, last)) old new
 Steps old (token.SetItem letter) new = Gained (set_has letter) old new
 Steps old token.ClassEnd new = PushesSet (class_has old.excluded old.raw.items) old new
 Steps old (token.Repeat least most at) new = (prefix : List Expr) (piece : Expr) → old.pieces ≡ prefix ++ piece ∷ []
-    → Repeats prefix (Repeat piece least most) old new
+    → RepeatsLast prefix (Repeat piece least most) old new
 
 -- tokens one after the other
 abbrev pub Runs : Builder → List Token → Builder → Type 0
