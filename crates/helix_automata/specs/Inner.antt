@@ -1,3 +1,4 @@
+pub mod ArcsLeft
 pub mod Explore
 pub mod Lookup
 pub mod PairLaws

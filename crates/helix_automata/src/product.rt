@@ -1,7 +1,8 @@
 //! The product of two automata, as a machine.
 
-ghost use Rattle.std.specs.Prelude.{◌<◌, length};
-ghost use Rattle.helix_automata.specs.Automaton.{AcceptsFrom};
+ghost use Rattle.std.specs.Prelude.{◌<◌, ◌+◌, ◌-◌, length};
+ghost use Rattle.helix_automata.specs.Automaton.{AcceptsFrom, arcs_of};
+ghost use Rattle.helix_automata.specs.Inner.ArcsLeft.{arcs_from};
 ghost use Rattle.helix_automata.specs.Inner.PairLaws.{same_pairs};
 
 use crate::dfa::Dfa;
@@ -25,6 +26,9 @@ impl<'a> Machine for Both<'a> {
     ghost IsState = { λ both pair. (pair.0 < length both.left.now.moves) × (pair.1 < length both.right.now.moves) };
 
     ghost Words = { λ both pair word. AcceptsFrom both.left.now pair.0 word × AcceptsFrom both.right.now pair.1 word };
+
+    ghost arcs_left = { λ both pair code. (arcs_from code (arcs_of both.left.now pair.0)
+        + arcs_from code (arcs_of both.right.now pair.1)) - 1 };
 
     fn accepts(&self, pair: &(u32, u32)) -> bool {
         self.left.accepting(pair.0) && self.right.accepting(pair.1)

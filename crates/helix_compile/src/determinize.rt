@@ -1,6 +1,6 @@
 //! The subset construction: the machine whose states are sets of states of a nondeterministic automaton.
 
-ghost use Rattle.std.specs.Prelude.{◌≡◌, ◌↔◌, ℕ, List, All, Any, IsTrue, IfOk, OnOk, slice_get};
+ghost use Rattle.std.specs.Prelude.{◌≡◌, ◌↔◌, ◌-◌, ◌^◌, ℕ, List, All, Any, IsTrue, IfOk, OnOk, slice_get};
 ghost use Rattle.helix_automata.specs.Automaton.{Accepts};
 ghost use Rattle.helix_automata.specs.Shape.{IsCharacter};
 ghost use Rattle.helix_compile.specs.Inner.Nfa.{NfaAccepts};
@@ -37,6 +37,8 @@ impl<'a> Machine for Subsets<'a> {
     ghost IsState = { λ subsets set. HasNoSplit subsets.nfa.now set.items };
 
     ghost Words = { λ subsets set word. SomeAccepts subsets.nfa.now set.items word };
+
+    ghost arcs_left = { λ subsets set code. 2 ^ 32 - code };
 
     fn accepts(&self, set: &Vec<u32>) -> bool {
         accepts_empty(self.nfa, set.as_slice())

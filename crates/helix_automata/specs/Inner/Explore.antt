@@ -1,5 +1,5 @@
 -- The states of a machine, numbered as they are met.
-use Rattle.std.specs.Prelude.{◌≡◌, ◌↔◌, ℕ, Some, List, ◌∷◌, length, slice_get}
+use Rattle.std.specs.Prelude.{◌≡◌, ◌↔◌, ◌≤◌, ℕ, Some, List, ◌∷◌, length, slice_get}
 use Rattle.helix_automata.specs.declared.arc.Arc.{Arc}
 use Rattle.helix_automata.specs.Automaton.{target}
 use Rattle.helix_automata.specs.Shape.{IsCharacter, AreArcs}
@@ -32,3 +32,8 @@ pub record AreArcsOf {S : Type 0} (Words : S → List ℕ → Type 0) (state : S
 abbrev pub AreStateArcs : {S : Type 0} → (S → List ℕ → Type 0) → List S → ℕ → List S → List Arc → Type 0
 AreStateArcs {S} Words old number states arcs = (state : S) → slice_get old number ≡ Some state
     → AreArcsOf Words state states arcs
+
+-- there are at most as many arcs as the state with a number has left, from whichever character on
+abbrev pub AreFew : {S : Type 0} → (S → ℕ → ℕ) → List S → ℕ → List Arc → Type 0
+AreFew {S} left states number arcs = (state : S) (most : ℕ) → slice_get states number ≡ Some state
+    → ((code : ℕ) → IsCharacter code → left state code ≤ most) → length arcs ≤ most
