@@ -1,95 +1,72 @@
 -- How many arcs a state of a product has.
-use Rattle.std.proofs.Common.{◌≡◌, ℕ, zero, suc, ◌+◌, ◌-◌, ◌<◌, ◌≤◌, Bool, true, false, nat_le, cond, min, Result, Ok, Err, IfOk, Some, List, [], ◌∷◌, All, Contains, length, inl, inr, ap, arith, refl, sym, ◌∙◌, subst}
+use Rattle.std.proofs.Common.{◌≡◌, ◌⊎◌, ℕ, zero, suc, ◌+◌, ◌-◌, ◌<◌, ◌≤◌, Bool, true, false, nat_le, cond, min, Result, Ok, Err, IfOk, Some, List, [], ◌∷◌, All, Contains, length, inl, inr, ap, arith, refl, sym, ◌∙◌, subst}
 use Rattle.std.proofs.lemmas.Bool.{leb-true, le-leb, cases_lt}
 use Rattle.helix_automata.specs.declared.arc.Arc.{Arc}
-use Rattle.helix_automata.specs.Automaton.{Automaton, target, arcs_of, most_arcs}
-use Rattle.helix_automata.specs.Shape.{IsWellFormed}
-use Rattle.helix_automata.specs.Machine.{LeavesFewer, LeaveAtMost}
-use Rattle.helix_automata.specs.Inner.ArcsLeft.{arcs_from}
-use Rattle.helix_automata.proofs.Covering.{none_some}
+use Rattle.helix_automata.specs.Automaton.{Automaton, holds, target, arcs_of, most_arcs}
+use Rattle.helix_automata.specs.Shape.{IsCharacter, IsWellFormed}
+use Rattle.helix_automata.specs.Machine.{FallsAt, EndsAtMost}
+use Rattle.helix_automata.specs.Inner.ArcEnds.{IsArcEnd}
+use Rattle.helix_automata.specs.Inner.EndLaws.{one_from, one_here, one_gone, one_most, one_falls}
+use Rattle.helix_automata.proofs.Covering.{held, none_some, target_on}
 use Rattle.helix_automata.proofs.Greatest.{most_bounds}
 use Rattle.helix_automata.proofs.Pairs.{ArePair}
 
--- of one arc: whether it doesn't end below a code
-abbrev one_from : ℕ → Arc → ℕ
-one_from code arc = cond (nat_le code arc.last) 1 0
+-- how many arcs don't end below a code
+abbrev arcs_from : ℕ → List Arc → ℕ
+arcs_from code [] = 0
+arcs_from code (arc ∷ arcs) = one_from code arc.last + arcs_from code arcs
 
-one_falls : (code other : ℕ) (arc : Arc) → code ≤ other → one_from other arc ≤ one_from code arc
-one_falls code other arc low = by (nat_le other arc.last) refl (nat_le code arc.last) refl
-  where
-    by : (b : Bool) → nat_le other arc.last ≡ b → (d : Bool) → nat_le code arc.last ≡ d → cond b 1 0 ≤ cond d 1 0
-    by false e d f = omega arith
-    by true e true f = omega arith
-    by true e false f = let high = leb-true other arc.last e in
-        let t : true ≡ false = sym (le-leb code arc.last (omega (arith, high, low))) ∙ f in cc
-
-one_here : (code : ℕ) (arc : Arc) → code ≤ arc.last → one_from code arc ≡ 1
-one_here code arc low = ap (λ b. cond b 1 0) (le-leb code arc.last low)
-
-one_gone : (code : ℕ) (arc : Arc) → arc.last < code → one_from code arc ≤ 0
-one_gone code arc above = by (nat_le code arc.last) refl
-  where
-    by : (b : Bool) → nat_le code arc.last ≡ b → cond b 1 0 ≤ 0
-    by false e = omega arith
-    by true e = let low = leb-true code arc.last e in absurd (omega (arith, low, above))
-
-one_most : (code : ℕ) (arc : Arc) → one_from code arc ≤ 1
-one_most code arc = by (nat_le code arc.last)
-  where
-    by : (b : Bool) → cond b 1 0 ≤ 1
-    by false = omega arith
-    by true = omega arith
-
-pub from_falls : (arcs : List Arc) (code other : ℕ) → code ≤ other → arcs_from other arcs ≤ arcs_from code arcs
+from_falls : (arcs : List Arc) (code other : ℕ) → code ≤ other → arcs_from other arcs ≤ arcs_from code arcs
 from_falls [] code other low = omega arith
 from_falls (arc ∷ arcs) code other low =
-    let one = one_falls code other arc low in let rest = from_falls arcs code other low in omega (arith, one, rest)
+    let one = one_falls code other arc.last low in let rest = from_falls arcs code other low in omega (arith, one, rest)
 
-pub from_most : (arcs : List Arc) (code : ℕ) → arcs_from code arcs ≤ length arcs
+from_most : (arcs : List Arc) (code : ℕ) → arcs_from code arcs ≤ length arcs
 from_most [] code = omega arith
 from_most (arc ∷ arcs) code =
-    let one = one_most code arc in let rest = from_most arcs code in omega (arith, one, rest)
+    let one = one_most code arc.last in let rest = from_most arcs code in omega (arith, one, rest)
 
 -- an arc that doesn't end below the one code, but below the other
-pub from_less : (arcs : List Arc) (arc : Arc) (code other : ℕ) → Contains arcs arc → code ≤ arc.last → arc.last < other
+from_less : (arcs : List Arc) (arc : Arc) (code other : ℕ) → Contains arcs arc → code ≤ arc.last → arc.last < other
     → arcs_from other arcs < arcs_from code arcs
 from_less [] arc code other (k, within, is) low high = absurd (omega (arith, within))
 from_less (first ∷ arcs) arc code other (zero, within, is) low high =
     let rest = from_falls arcs code other (omega (arith, low, high)) in
     let last : first.last ≡ arc.last = ap (λ a. a.last) is in
-    let here = one_here code first (omega (arith, low, last)) in
-    let gone = one_gone other first (omega (arith, high, last)) in omega (arith, rest, here, gone)
+    let here = one_here code first.last (omega (arith, low, last)) in
+    let gone = one_gone other first.last (omega (arith, high, last)) in omega (arith, rest, here, gone)
 from_less (first ∷ arcs) arc code other (suc k, within, is) low high =
     let rest = from_less arcs arc code other (k, omega (arith, within), is) low high in
-    let one = one_falls code other first (omega (arith, low, high)) in omega (arith, rest, one)
+    let one = one_falls code other first.last (omega (arith, low, high)) in omega (arith, rest, one)
 
-pub from_some : (arcs : List Arc) (arc : Arc) (code : ℕ) → Contains arcs arc → code ≤ arc.last
-    → 0 < arcs_from code arcs
-from_some arcs arc code has low = let less = from_less arcs arc code (arc.last + 1) has low (omega arith) in
-    omega (arith, less)
+from_some : (arcs : List Arc) (code next : ℕ) → target arcs code ≡ Some next → 0 < arcs_from code arcs
+from_some [] code next leads = absurd (none_some next leads)
+from_some (arc ∷ arcs) code next leads = by (holds code arc) refl (λ on. from_some arcs code next on)
+  where
+    by : (b : Bool) → holds code arc ≡ b → (target arcs code ≡ Some next → 0 < arcs_from code arcs)
+        → 0 < arcs_from code (arc ∷ arcs)
+    by true e more = let within = held code arc e in let here = one_here code arc.last within.1 in omega (arith, here)
+    by false e more = let rest = more (sym (target_on code arc arcs e) ∙ leads) in omega (arith, rest)
 
--- after the nearer end of two arcs
-pub pair_fewer : (left right left_arcs right_arcs : List Arc) (one other : Arc) (first last : ℕ)
-    → left_arcs ≡ left → right_arcs ≡ right → Contains left_arcs one → Contains right_arcs other
-    → first ≤ one.last → first ≤ other.last → last ≡ min one.last other.last
-    → LeavesFewer (λ code. (arcs_from code left + arcs_from code right) - 1) first last
-pair_fewer left right left_arcs right_arcs one other first last left_are right_are has_one has_other low_one low_other
-    is code above =
-    let one_in = subst (λ l. Contains l one) left_are has_one in
-    let other_in = subst (λ l. Contains l other) right_are has_other in
-    let one_some = from_some left one first one_in low_one in
-    let other_some = from_some right other first other_in low_other in
-    let one_falls = from_falls left first code (omega (arith, above, is, low_one, low_other)) in
-    let other_falls = from_falls right first code (omega (arith, above, is, low_one, low_other)) in
+-- what is left of the arcs of a pair: those that don't end below a code, of which two end together with the last one
+abbrev pair_left : Automaton → Automaton → ℕ × ℕ → ℕ → ℕ
+pair_left left right pair code = (arcs_from code (arcs_of left pair.0) + arcs_from code (arcs_of right pair.1)) - 1
+
+-- the ends of the steps from a pair
+abbrev pub IsPairEnd : Automaton → Automaton → ℕ × ℕ → ℕ → Type 0
+IsPairEnd left right pair last = IsArcEnd (arcs_of left pair.0) last ⊎ IsArcEnd (arcs_of right pair.1) last
+
+pub pair_ends : (left right : Automaton) (pair : ℕ × ℕ) (left_arcs right_arcs : List Arc) (one other : Arc) (last : ℕ)
+    → left_arcs ≡ arcs_of left pair.0 → right_arcs ≡ arcs_of right pair.1 → Contains left_arcs one
+    → Contains right_arcs other → last ≡ min one.last other.last → IsPairEnd left right pair last
+pair_ends left right pair left_arcs right_arcs one other last left_are right_are has_one has_other is =
     elim (cases_lt one.last other.last) [
-      | inl near ↦ (let less = from_less left one first code one_in low_one (omega (arith, above, is, near)) in
-          omega (arith, less, other_falls, one_some, other_some))
-      | inr far ↦ (let less = from_less right other first code other_in low_other (omega (arith, above, is, far)) in
-          omega (arith, less, one_falls, one_some, other_some))
+      | inl near ↦ inl (one, subst (λ l. Contains l one) left_are has_one, omega (arith, near, is))
+      | inr far ↦ inr (other, subst (λ l. Contains l other) right_are has_other, omega (arith, far, is))
     ]
 
 -- some character leads on from the first state
-pub most_some : (automaton : Automaton) → IsWellFormed automaton → 0 < most_arcs automaton
+most_some : (automaton : Automaton) → IsWellFormed automaton → 0 < most_arcs automaton
 most_some automaton shape =
     let are = shape.rows 0 [] shape.some in
     let (next, leads) = are.lead_on 32 refl (omega arith) in
@@ -100,23 +77,40 @@ most_some automaton shape =
     has_some [] code next leads = absurd (none_some next leads)
     has_some (arc ∷ arcs) code next leads = omega arith
 
-product_few : (left right : Automaton) → LeaveAtMost (ArePair left right)
-    (λ pair code. (arcs_from code (arcs_of left pair.0) + arcs_from code (arcs_of right pair.1)) - 1)
-    ((most_arcs left + most_arcs right) - 1)
-product_few left right pair are code character =
-    let one = from_most (arcs_of left pair.0) code in
-    let other = from_most (arcs_of right pair.1) code in
-    let one_most = most_bounds left.moves pair.0 [] are.0 in
-    let other_most = most_bounds right.moves pair.1 [] are.1 in
-    omega (arith, one, other, one_most, other_most)
+module _ (left right : Automaton) (left_shape : IsWellFormed left) (right_shape : IsWellFormed right) where
+  pair_falls : (pair : ℕ × ℕ) → ArePair left right pair
+      → FallsAt (IsPairEnd left right pair) (pair_left left right pair)
+  pair_falls pair are last code other ends character low high =
+      let (to, leads) = (left_shape.rows pair.0 [] are.0).lead_on code character (omega arith) in
+      let (to_other, leads_other) = (right_shape.rows pair.1 [] are.1).lead_on code character (omega arith) in
+      let some = from_some (arcs_of left pair.0) code to leads in
+      let some_other = from_some (arcs_of right pair.1) code to_other leads_other in
+      let falls = from_falls (arcs_of left pair.0) code other (omega (arith, low, high)) in
+      let falls_other = from_falls (arcs_of right pair.1) code other (omega (arith, low, high)) in
+      elim ends [
+        | inl (arc, has, is) ↦ (let less = from_less (arcs_of left pair.0) arc code other has (omega (arith, low, is))
+            (omega (arith, high, is)) in omega (arith, less, falls_other, some, some_other))
+        | inr (arc, has, is) ↦ (let less = from_less (arcs_of right pair.1) arc code other has (omega (arith, low, is))
+            (omega (arith, high, is)) in omega (arith, less, falls, some, some_other))
+      ]
 
-pub product_arcs : {E : Type 0} (r : Result Automaton E) (left right : Automaton) → IsWellFormed left
-    → IfOk r (λ both. (most : ℕ) → LeaveAtMost (ArePair left right)
-    (λ pair code. (arcs_from code (arcs_of left pair.0) + arcs_from code (arcs_of right pair.1)) - 1) most
-    → All (λ arcs. length arcs ≤ most) both.moves)
-    → IfOk r (λ both. All (λ arcs. length arcs < most_arcs left + most_arcs right) both.moves)
-product_arcs (Err e) left right shape explored = tt
-product_arcs (Ok both) left right shape explored = λ k d within.
-    let few = explored ((most_arcs left + most_arcs right) - 1) (product_few left right) k d
-    within in
-    let some = most_some left shape in omega (arith, few, some)
+  pair_few : EndsAtMost (ArePair left right) (IsPairEnd left right) ((most_arcs left + most_arcs right) - 1)
+  pair_few pair are = (
+    pair_left left right pair,
+    pair_falls pair are,
+    (λ code character.
+        let one = from_most (arcs_of left pair.0) code in
+        let other = from_most (arcs_of right pair.1) code in
+        let one_most = most_bounds left.moves pair.0 [] are.0 in
+        let other_most = most_bounds right.moves pair.1 [] are.1 in
+        omega (arith, one, other, one_most, other_most)),
+  )
+
+  pub product_arcs : {E : Type 0} (r : Result Automaton E)
+      → IfOk r (λ both. (most : ℕ) → EndsAtMost (ArePair left right) (IsPairEnd left right) most
+      → All (λ arcs. length arcs ≤ most) both.moves)
+      → IfOk r (λ both. All (λ arcs. length arcs < most_arcs left + most_arcs right) both.moves)
+  product_arcs (Err e) explored = tt
+  product_arcs (Ok both) explored = λ k d within.
+      let few = explored ((most_arcs left + most_arcs right) - 1) pair_few k d within in
+      let some = most_some left left_shape in omega (arith, few, some)

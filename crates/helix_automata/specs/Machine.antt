@@ -11,10 +11,12 @@ pub record LeadsOn {S : Type 0} (IsState : S → Type 0) (Words : S → List ℕ
   pub leads : (code : ℕ) → IsCharacter code → first ≤ code → code ≤ last → (word : List ℕ) → Words next word
       ↔ Words state (code ∷ word)
 
--- after the last code fewer arcs are left than from the first one on
-abbrev pub LeavesFewer : (ℕ → ℕ) → ℕ → ℕ → Type 0
-LeavesFewer left first last = (code : ℕ) → last < code → left code < left first
+-- something falls from each character on to whatever is above an end that isn't below the character
+abbrev pub FallsAt : (ℕ → Type 0) → (ℕ → ℕ) → Type 0
+FallsAt IsEnd left = (last code other : ℕ) → IsEnd last → IsCharacter code → code ≤ last → last < other
+    → left other < left code
 
--- no state has more arcs left than a bound, from whichever character on
-abbrev pub LeaveAtMost : {S : Type 0} → (S → Type 0) → (S → ℕ → ℕ) → ℕ → Type 0
-LeaveAtMost {S} IsState left most = (state : S) → IsState state → (code : ℕ) → IsCharacter code → left state code ≤ most
+-- for each state something falls at the ends of its steps, and is nowhere above a bound
+abbrev pub EndsAtMost : {S : Type 0} → (S → Type 0) → (S → ℕ → Type 0) → ℕ → Type 0
+EndsAtMost {S} IsState IsEnd most = (state : S) → IsState state → (left : ℕ → ℕ) × FallsAt (IsEnd state) left
+    × ((code : ℕ) → IsCharacter code → left code ≤ most)

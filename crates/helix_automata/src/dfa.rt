@@ -139,7 +139,7 @@ impl Dfa {
         ensures arcs { IfOk result (λ both. All (λ arcs. length arcs < most_arcs self.now + most_arcs other.now)
             both.moves) }
     {
-        let _moves = &self.moves;
+        let (_moves, _rows) = (&self.moves, &other.moves);
         let (_states, _others) = (self.states(), other.states());
         let both = Both {
             left: self,

@@ -3,7 +3,7 @@
 ghost use Rattle.std.specs.Prelude.{ℕ, List, [], ◌≡◌, ◌↔◌, ◌<◌, ◌≤◌, true, Some, IsTrue, IfOk, OnOk, All, length, slice_get};
 ghost use Rattle.helix_automata.specs.Automaton.{Accepts};
 ghost use Rattle.helix_automata.specs.Shape.{IsCharacter};
-ghost use Rattle.helix_automata.specs.Machine.{LeadsOn, LeavesFewer, LeaveAtMost};
+ghost use Rattle.helix_automata.specs.Machine.{LeadsOn, EndsAtMost};
 ghost use Rattle.helix_automata.specs.Inner.Explore.{AreStates, KeepTheirNumbers, AreStateArcs, AreFew};
 
 use crate::arc::{Arc, Arcs, Flags, Moves};
@@ -25,8 +25,8 @@ pub trait Machine {
 
     ghost Words: { Self → Self.State → List ℕ → Type 0 };
 
-    /// At most so many arcs of a state hold a code or follow it.
-    ghost arcs_left: { Self → Self.State → ℕ → ℕ };
+    /// A step from a state may end at this code.
+    ghost IsEnd: { Self → Self.State → ℕ → Type 0 };
 
     /// Whether a state accepts the empty word.
     fn accepts(&self, state: &Self::State) -> bool
@@ -44,7 +44,7 @@ pub trait Machine {
         requires state { IsState self.now state.now }
         requires character { IsCharacter first }
         ensures leads { IfOk result (λ next. LeadsOn (IsState self.now) (Words self.now) state.now first next.1 next.0) }
-        ensures fewer { IfOk result (λ next. LeavesFewer (arcs_left self.now state.now) first next.1) };
+        ensures ends { IfOk result (λ next. IsEnd self.now state.now next.1) };
 
     ghost same_words: { (machine : Self) (one other : Self.State) → Self.State.PartialEq.eq one other ≡ true
         → (word : List ℕ) → Words machine one word ↔ Words machine other word };
@@ -63,7 +63,7 @@ fn arcs_of_state<M: Machine>(
     ensures keeps { OnOk result (KeepTheirNumbers states.old states.new) }
     ensures states { OnOk result (AreStates (M.IsState machine.now) states.new) }
     ensures arcs { IfOk result (AreStateArcs (M.Words machine.now) states.old number states.new) }
-    ensures few { IfOk result (AreFew (M.arcs_left machine.now) states.old number) }
+    ensures few { IfOk result (AreFew (M.IsEnd machine.now) states.old number) }
 {
     let mut row = Row::new(alloc);
     while let Some(first) = row.next() {
@@ -88,7 +88,7 @@ pub fn explore<M: Machine>(
     requires { M.IsState machine.now start }
     ensures words { IfOk result (λ dfa. (word : List ℕ) → All IsCharacter word → Accepts dfa word
         ↔ M.Words machine.now start word) }
-    ensures arcs { IfOk result (λ dfa. (most : ℕ) → LeaveAtMost (M.IsState machine.now) (M.arcs_left machine.now) most
+    ensures arcs { IfOk result (λ dfa. (most : ℕ) → EndsAtMost (M.IsState machine.now) (M.IsEnd machine.now) most
         → All (λ arcs. length arcs ≤ most) dfa.moves) }
 {
     let mut states = Numbered::new(alloc);

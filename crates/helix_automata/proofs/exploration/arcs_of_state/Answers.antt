@@ -8,7 +8,7 @@ loop-first-init g c = record {
   walked = walk_start (g.M.Machine.IsState c.args.machine.now) (g.M.Machine.Words c.args.machine.now) c.args.number
       c.args.states.now c.new-row.result
       c.new-row.ensures.arcs c.new-row.ensures.next c.requires.number c.requires.states;
-  few = few_start (g.M.Machine.arcs_left c.args.machine.now) c.args.number c.args.states.now c.new-row.result
+  few = few_start (g.M.Machine.IsEnd c.args.machine.now) c.args.number c.args.states.now c.new-row.result
       c.new-row.ensures.arcs c.new-row.ensures.next;
 }
 
@@ -30,10 +30,12 @@ loop-first-preserved g c = let numbered = c.in_ok-to.ensures.number in record {
       numbered.1
       (g.met.M.Machine.same_words c.args.machine.now c.in_ok-next.next numbered.0 numbered.2) c.in_ok-to.ensures.added
       c.in_ok-lead.ensures.ok;
-  few = few_more (g.M.Machine.arcs_left c.args.machine.now) c.args.number c.args.states.now c.loop-first.states
+  few = few_more (g.M.Machine.IsEnd c.args.machine.now) c.args.number c.args.states.now c.loop-first.states
       c.loop-first.row c.lead.new.self (record { first = c.in-Some.first; last = c.in_ok-next.last; to = c.in_ok-to.to })
-      c.in-Some-get.state.now c.loop-first.invariant.few c.loop-first.invariant.walked.keeps
-      (sym c.in-Some-get.ensures) (sym c.in-Some.ensures) c.in_ok-next.ensures.fewer c.in_ok-lead.ensures.ok;
+      c.in-Some-get.state.now c.loop-first.invariant.walked.bound c.loop-first.invariant.few
+      c.loop-first.invariant.walked.next c.loop-first.invariant.walked.keeps
+      (sym c.in-Some-get.ensures) (sym c.in-Some.ensures) c.in_ok-next.ensures.leads.reached c.in_ok-next.ensures.ends
+      c.in_ok-lead.ensures.ok;
 }
 
 pub returns-clause-arcs : goal.returns-clause-arcs
@@ -45,5 +47,5 @@ returns-clause-arcs g c =
 
 pub returns-clause-few : goal.returns-clause-few
 returns-clause-few g c =
-    few_all (g.M.Machine.arcs_left c.args.machine.now) c.args.number c.args.states.now c.loop-first.row
+    few_all (g.M.Machine.IsEnd c.args.machine.now) c.args.number c.args.states.now c.loop-first.row
     c.into_arcs.result c.loop-first.invariant.few (sym c.in_default.ensures) c.into_arcs.ensures.value

@@ -36,7 +36,7 @@ loop-done-preserved g c = record {
       c.loop-done.invariant.made (sym c.in-Some.ensures) c.in_ok-arcs_of_state.ensures.keeps
       c.in_ok-arcs_of_state.ensures.states c.in_ok-arcs_of_state.ensures.arcs
       c.in_ok-push-2.ensures.ok c.accepts.ensures c.in_ok-push.ensures.ok;
-  few = each_more (g.M.Machine.IsState c.args.machine.now) (g.M.Machine.arcs_left c.args.machine.now)
+  few = each_more (g.M.Machine.IsState c.args.machine.now) (g.M.Machine.IsEnd c.args.machine.now)
       c.loop-done.states c.loop-done.done c.in-Some.state.now c.loop-done.moves c.push-in-loop-done.new.self
       c.in_ok-arcs_of_state.field-0 c.loop-done.invariant.few c.loop-done.invariant.made.are (sym c.in-Some.ensures)
       c.in_ok-arcs_of_state.ensures.few c.in_ok-push-2.ensures.ok;

@@ -5,5 +5,5 @@ use Rattle.helix_automata.proofs.exploration.explore.Given as goal
 abbrev pub invariant-loop-done : goal.invariant-loop-done
 invariant-loop-done g l = record {
   made : Made (g.M.Machine.IsState l.machine) (g.M.Machine.Words l.machine) l.fn.start l.states l.moves l.flags l.done;
-  few : EachHasFew (g.M.Machine.IsState l.machine) (g.M.Machine.arcs_left l.machine) l.moves;
+  few : EachHasFew (g.M.Machine.IsState l.machine) (g.M.Machine.IsEnd l.machine) l.moves;
 }

@@ -1,7 +1,6 @@
 use Rattle.std.proofs.Common.{length}
 use Rattle.helix_automata.proofs.Pairs.{pair_leads}
-use Rattle.helix_automata.specs.Automaton.{arcs_of}
-use Rattle.helix_automata.proofs.ProductArcs.{pair_fewer}
+use Rattle.helix_automata.proofs.ProductArcs.{pair_ends}
 use Rattle.helix_automata.proofs.product.BothMachine.step.Goals as goal
 
 pub returns-clause-leads : goal.returns-clause-leads
@@ -13,9 +12,7 @@ returns-clause-leads c = pair_leads c.args.self.now.left.now c.args.self.now.rig
     (c.arc_of-right.ensures.named (length c.args.self.now.right.now.moves) c.arcs-2.ensures.shape)
     c.arc_of-left.ensures.leads c.arc_of-right.ensures.leads
 
-pub returns-clause-fewer : goal.returns-clause-fewer
-returns-clause-fewer c = pair_fewer (arcs_of c.args.self.now.left.now c.args.pair.now.0)
-    (arcs_of c.args.self.now.right.now c.args.pair.now.1) c.arcs.result.now c.arcs-2.result.now c.arc_of-left.result
-    c.arc_of-right.result c.args.first c.min.result c.arcs.ensures.value c.arcs-2.ensures.value
-    c.arc_of-left.ensures.found c.arc_of-right.ensures.found c.arc_of-left.ensures.reaches
-    c.arc_of-right.ensures.reaches c.min.ensures
+pub returns-clause-ends : goal.returns-clause-ends
+returns-clause-ends c = pair_ends c.args.self.now.left.now c.args.self.now.right.now c.args.pair.now c.arcs.result.now
+    c.arcs-2.result.now c.arc_of-left.result c.arc_of-right.result c.min.result c.arcs.ensures.value
+    c.arcs-2.ensures.value c.arc_of-left.ensures.found c.arc_of-right.ensures.found c.min.ensures
