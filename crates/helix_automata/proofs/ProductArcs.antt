@@ -1,9 +1,9 @@
 -- How many arcs a state of a product has.
-use Rattle.std.proofs.Common.{◌≡◌, ◌⊎◌, ℕ, zero, suc, ◌+◌, ◌-◌, ◌<◌, ◌≤◌, Bool, true, false, nat_le, cond, min, Result, Ok, Err, IfOk, Some, List, [], ◌∷◌, All, Contains, length, inl, inr, ap, arith, refl, sym, ◌∙◌, subst}
-use Rattle.std.proofs.lemmas.Bool.{leb-true, le-leb, cases_lt}
+use Rattle.std.proofs.Common.{◌≡◌, ◌⊎◌, ℕ, zero, suc, ◌+◌, ◌-◌, ◌<◌, ◌≤◌, Bool, true, false, min, Result, Ok, Err, IfOk, Some, List, [], ◌∷◌, All, Contains, length, inl, inr, ap, arith, refl, sym, ◌∙◌, subst}
+use Rattle.std.proofs.lemmas.Bool.{cases_lt}
 use Rattle.helix_automata.specs.declared.arc.Arc.{Arc}
 use Rattle.helix_automata.specs.Automaton.{Automaton, holds, target, arcs_of, most_arcs}
-use Rattle.helix_automata.specs.Shape.{IsCharacter, IsWellFormed}
+use Rattle.helix_automata.specs.Shape.{IsWellFormed}
 use Rattle.helix_automata.specs.Machine.{FallsAt, EndsAtMost}
 use Rattle.helix_automata.specs.Inner.ArcEnds.{IsArcEnd}
 use Rattle.helix_automata.specs.Inner.EndLaws.{one_from, one_here, one_gone, one_most, one_falls}

@@ -1,11 +1,9 @@
 -- The ends of ranges, and how many are left from a code on.
-use Rattle.std.proofs.Common.{◌≡◌, ◌⊎◌, inl, inr, ℕ, zero, suc, ◌+◌, ◌-◌, ◌*◌, ◌<◌, ◌≤◌, min, Result, Ok, Err, IfOk, Some, List, [], ◌∷◌, ◌++◌, All, Contains, length, get_or, slice_get, arith, ap, sym, ◌∙◌, subst}
+use Rattle.std.proofs.Common.{◌≡◌, ◌⊎◌, inl, inr, ℕ, zero, suc, ◌+◌, ◌*◌, ◌<◌, ◌≤◌, min, Result, Ok, Err, IfOk, Some, List, [], ◌∷◌, ◌++◌, All, Contains, length, get_or, slice_get, arith, ap, sym, ◌∙◌, subst}
 use Rattle.std.proofs.lemmas.Bool.{cases_lt}
 use Rattle.std.proofs.lemmas.Option.{slice_get_within, slice_get-get_or, same_Some}
 use Rattle.std.proofs.lemmas.List.Elements.{Contains-get_or}
-use Rattle.helix_automata.specs.declared.arc.Arc.{Arc}
 use Rattle.helix_automata.specs.Automaton.{Automaton}
-use Rattle.helix_automata.specs.Shape.{IsCharacter}
 use Rattle.helix_automata.specs.Machine.{FallsAt, EndsAtMost}
 use Rattle.helix_automata.specs.Inner.EndLaws.{one_from, one_here, one_gone, one_most, one_falls}
 use Rattle.helix_compile.specs.declared.nfa.State.{State}
@@ -42,8 +40,8 @@ pub reads_at : (nfa : List State) (all ranges : List (ℕ × ℕ)) (number next 
 reads_at nfa all ranges number next at reads =
     let within = slice_get_within nfa number (Read ranges next) at in
     let is : get_or nfa number (Read ranges next) ≡ Read ranges next =
-        same_Some (get_or nfa number (Read ranges next)) (Read ranges next)
-        (sym (slice_get-get_or nfa number (Read ranges next) within) ∙ at) in
+    same_Some (get_or nfa number (Read ranges next)) (Read ranges next)
+    (sym (slice_get-get_or nfa number (Read ranges next) within) ∙ at) in
     subst (λ state. ReadsOnly all state) is (reads number (Read ranges next) within)
 
 -- what is left of the ends of ranges from a code on, and of the last character
@@ -134,3 +132,12 @@ few_arcs (Ok dfa) IsState nfa explored = λ ranges reads. explored (2 * length r
       character low high),
   (λ code character. ends_most ranges code),
 ))
+
+pub few_arcs_of : {E : Type 0} (r : Result Automaton E) (borrowed nfa : List State) (ranges : List (ℕ × ℕ))
+    → borrowed ≡ nfa → ReadsAmong nfa (any_character ++ ranges)
+    → IfOk r (λ dfa. (l : List (ℕ × ℕ)) → ReadsAmong borrowed (any_character ++ l)
+    → All (λ arcs. length arcs ≤ 2 * length l + 1) dfa.moves)
+    → IfOk r (λ dfa. All (λ arcs. length arcs ≤ 2 * length ranges + 1) dfa.moves)
+few_arcs_of (Err e) borrowed nfa ranges same reads few = tt
+few_arcs_of (Ok dfa) borrowed nfa ranges same reads few =
+    few ranges (subst (λ l. ReadsAmong l (any_character ++ ranges)) (sym same) reads)

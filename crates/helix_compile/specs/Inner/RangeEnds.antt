@@ -1,5 +1,7 @@
 -- The ends of the ranges that states read.
-use Rattle.std.specs.Prelude.{◌≡◌, ◌⊎◌, ℕ, ◌+◌, ◌≤◌, List, All, Contains}
+use Rattle.std.specs.Prelude.{◌≡◌, ◌⊎◌, ℕ, ◌+◌, ◌≤◌, List, [], ◌∷◌, ◌++◌, All, Contains}
+use Rattle.helix_expr.specs.declared.expr.Expr.{Expr}
+use Rattle.helix_compile.specs.ExprRanges.{ranges_in}
 use Rattle.helix_compile.specs.declared.nfa.State.{State}
 use Rattle.helix_compile.specs.declared.nfa.State.TheVariants.{Accept, AcceptAll, Fail, Read, Split}
 
@@ -30,3 +32,12 @@ IsEndAmong ranges last = (0x10FFFF ≤ last) ⊎ ((range : ℕ × ℕ) × Contai
 -- the same, of whichever ranges have all that the states read
 abbrev pub IsNfaEnd : List State → ℕ → Type 0
 IsNfaEnd nfa last = (all : List (ℕ × ℕ)) → ReadsAmong nfa all → IsEndAmong all last
+
+-- the ranges of the expressions of a list
+abbrev pub ranges_of_each : List Expr → List (ℕ × ℕ)
+ranges_of_each [] = []
+ranges_of_each (part ∷ parts) = ranges_in part ++ ranges_of_each parts
+
+-- what the new states read, beyond what the old ones do, is among these ranges
+abbrev pub ReadsMore : List State → List State → List (ℕ × ℕ) → Type 0
+ReadsMore old new ranges = (all : List (ℕ × ℕ)) → AreAmong ranges all → ReadsAmong old all → ReadsAmong new all
