@@ -1,4 +1,4 @@
--- How many arcs a state has, by something that falls at the ends of steps from it.
+-- How many arcs a state has, by a measure that falls at the ends of steps from it.
 use Rattle.std.proofs.Common.{◌≡◌, ℕ, ◌+◌, ◌<◌, ◌≤◌, Option, Some, None, List, [], ◌∷◌, ◌++◌, All, length, slice_get, ap, arith, sym, ◌∙◌, subst}
 use Rattle.std.proofs.lemmas.Option.{same_Some}
 use Rattle.std.proofs.lemmas.List.Elements.{All-nil, All-push}

@@ -15,7 +15,7 @@ use std::alloc::Global;
 use std::hash::Hash;
 
 /// A deterministic machine over the characters of Unicode, with states of any type. `Words machine state word` is that
-/// the machine accepts the word from the state.
+/// the machine accepts the word from the state, `IsEnd machine state code` that a step from it may end at the code.
 pub trait Machine {
     type State: Eq + Hash + Drop;
     /// Memory that one step leaves to the next.
@@ -25,7 +25,6 @@ pub trait Machine {
 
     ghost Words: { Self → Self.State → List ℕ → Type 0 };
 
-    /// A step from a state may end at this code.
     ghost IsEnd: { Self → Self.State → ℕ → Type 0 };
 
     /// Whether a state accepts the empty word.
@@ -43,7 +42,8 @@ pub trait Machine {
     ) -> Result<(Self::State, u32), Memory>
         requires state { IsState self.now state.now }
         requires character { IsCharacter first }
-        ensures leads { IfOk result (λ next. LeadsOn (IsState self.now) (Words self.now) state.now first next.1 next.0) }
+        ensures leads { IfOk result
+            (λ next. LeadsOn (IsState self.now) (Words self.now) state.now first next.1 next.0) }
         ensures ends { IfOk result (λ next. IsEnd self.now state.now next.1) };
 
     ghost same_words: { (machine : Self) (one other : Self.State) → Self.State.PartialEq.eq one other ≡ true

@@ -70,6 +70,13 @@ reads_part a b c parts before after part is one other =
     reads_then a b c (ranges_of_each parts) one
     (reads_within b c (ranges_in part) (ranges_of_each parts) (among_part_of parts before after part is) other)
 
+-- one time more, or none
+pub optional_reads : (a b c d : List State) (ranges : List (ℕ × ℕ)) (one next : ℕ) → ReadsMore a b ranges
+    → ReadsMore b c ranges → d ≡ c ++ Split one next ∷ [] → ReadsMore a d ranges
+optional_reads a b c d ranges one next before more added =
+    reads_then a c d ranges (reads_then a b c ranges before more)
+    (reads_push c d (Split one next) ranges (λ all among. tt) added)
+
 -- no alternative yet
 pub alternatives_read_none : (a b : List State) (chars ranges : List (ℕ × ℕ)) → b ≡ a ++ Fail ∷ [] → chars ≡ []
     → (all : List (ℕ × ℕ)) → AreAmong ranges all → ReadsAmong a all → AreAmong chars all × ReadsAmong b all

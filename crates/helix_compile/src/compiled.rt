@@ -23,7 +23,8 @@ use std::alloc::Global;
 pub fn dfa_of(alloc: Global, regex: &Regex, containing: bool) -> Result<Dfa, Memory>
     ensures words { IfOk result (λ dfa. (word : List ℕ) → All IsCharacter word → Accepts dfa word
         ↔ Answers regex.now containing word) }
-    ensures arcs { IfOk result (λ dfa. All (λ arcs. length arcs ≤ 2 * length (ranges_in regex.now.expr) + 1) dfa.moves) }
+    ensures arcs { IfOk result
+        (λ dfa. All (λ arcs. length arcs ≤ 2 * length (ranges_in regex.now.expr) + 1) dfa.moves) }
 {
     let (nfa, first) = nfa_of(alloc, regex, containing)?;
     determinize(alloc, nfa.as_slice(), first)

@@ -34,7 +34,7 @@ abbrev pub AreStateArcs : {S : Type 0} → (S → List ℕ → Type 0) → List 
 AreStateArcs {S} Words old number states arcs = (state : S) → slice_get old number ≡ Some state
     → AreArcsOf Words state states arcs
 
--- there are at most as many arcs as something that falls at the ends of steps from the state with a number
+-- there are at most as many arcs as the bound of a measure that falls at the ends of steps from the state with a number
 abbrev pub AreFew : {S : Type 0} → (S → ℕ → Type 0) → List S → ℕ → List Arc → Type 0
 AreFew {S} IsEnd states number arcs = (state : S) (left : ℕ → ℕ) (most : ℕ) → slice_get states number ≡ Some state
     → FallsAt (IsEnd state) left → ((code : ℕ) → IsCharacter code → left code ≤ most) → length arcs ≤ most

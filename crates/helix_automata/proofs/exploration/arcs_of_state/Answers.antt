@@ -31,7 +31,8 @@ loop-first-preserved g c = let numbered = c.in_ok-to.ensures.number in record {
       (g.met.M.Machine.same_words c.args.machine.now c.in_ok-next.next numbered.0 numbered.2) c.in_ok-to.ensures.added
       c.in_ok-lead.ensures.ok;
   few = few_more (g.M.Machine.IsEnd c.args.machine.now) c.args.number c.args.states.now c.loop-first.states
-      c.loop-first.row c.lead.new.self (record { first = c.in-Some.first; last = c.in_ok-next.last; to = c.in_ok-to.to })
+      c.loop-first.row c.lead.new.self
+      (record { first = c.in-Some.first; last = c.in_ok-next.last; to = c.in_ok-to.to })
       c.in-Some-get.state.now c.loop-first.invariant.walked.bound c.loop-first.invariant.few
       c.loop-first.invariant.walked.next c.loop-first.invariant.walked.keeps
       (sym c.in-Some-get.ensures) (sym c.in-Some.ensures) c.in_ok-next.ensures.leads.reached c.in_ok-next.ensures.ends

@@ -9,8 +9,7 @@ use Rattle.helix_compile.proofs.Arms.{parts_split, ok_map, empty_arm, chars_arm,
 use Rattle.helix_compile.proofs.Gathering.{alternatives_none, alternative_gathered, alternative_built, ok_grows_more, all_built}
 use Rattle.helix_compile.specs.ExprRanges.{ranges_in}
 use Rattle.helix_compile.specs.Inner.RangeEnds.{ranges_of_each}
-use Rattle.helix_compile.specs.declared.nfa.State.TheVariants.{Split}
-use Rattle.helix_compile.proofs.ReadRanges.{among_part_of, reads_none, reads_then, reads_push, reads_part, alternatives_read_none, chars_reads, seq_reads, alt_reads, repeat_reads, gathered_reads, split_reads, all_read, then_reads, star_reads}
+use Rattle.helix_compile.proofs.ReadRanges.{among_part_of, reads_none, reads_then, optional_reads, reads_part, alternatives_read_none, chars_reads, seq_reads, alt_reads, repeat_reads, gathered_reads, split_reads, all_read, then_reads, star_reads}
 use Rattle.helix_compile.proofs.Stars.{builds_star}
 use Rattle.helix_compile.proofs.thompson.+thompson.Goals as goal
 
@@ -31,20 +30,18 @@ build-returns-in_ok-copy-in-Chars-clause-leads t c =
 pub build-returns-in-Seq-clause-leads : goal.build-returns-in-Seq-clause-leads
 build-returns-in-Seq-clause-leads t c =
     seq_arm c.args.nfa.now c.build_in_order.new.nfa c.args.next c.args.expr.now c.in-Seq.parts c.as_slice.result.now
-    c.build_in_order.result
-    c.in-Seq.is c.as_slice.ensures c.build_in_order.ensures.leads
+    c.build_in_order.result c.in-Seq.is c.as_slice.ensures c.build_in_order.ensures.leads
 
 pub build-returns-in-Alt-clause-leads : goal.build-returns-in-Alt-clause-leads
 build-returns-in-Alt-clause-leads t c =
     alt_arm c.args.nfa.now c.build_alternatives.new.nfa c.args.next c.args.expr.now c.in-Alt.parts
-    c.as_slice-in-Alt.result.now c.build_alternatives.result
-    c.in-Alt.is c.as_slice-in-Alt.ensures c.build_alternatives.ensures.leads
+    c.as_slice-in-Alt.result.now c.build_alternatives.result c.in-Alt.is c.as_slice-in-Alt.ensures
+    c.build_alternatives.ensures.leads
 
 pub build-returns-in-Repeat-clause-leads : goal.build-returns-in-Repeat-clause-leads
 build-returns-in-Repeat-clause-leads t c =
     repeat_arm c.args.nfa.now c.build_repeat.new.nfa c.args.next c.args.expr.now c.in-Repeat.part c.get.result.now
-    c.in-Repeat.least c.in-Repeat.most
-    c.build_repeat.result c.in-Repeat.is c.get.ensures c.build_repeat.ensures.leads
+    c.in-Repeat.least c.in-Repeat.most c.build_repeat.result c.in-Repeat.is c.get.ensures c.build_repeat.ensures.leads
 
 pub build_in_order-loop-left-preserved : goal.build_in_order-loop-left-preserved
 build_in_order-loop-left-preserved t c =
@@ -69,21 +66,19 @@ build_more-returns-in-None-clause-leads t c =
 pub build_repeat-returns-clause-leads : goal.build_repeat-returns-clause-leads
 build_repeat-returns-clause-leads t c =
     repeated_arm c.args.nfa.now c.build_more.new.nfa c.build_times.new.nfa c.in_ok-rest.rest c.args.next c.args.limits.0
-    c.args.limits.1 (Matches c.args.part.now)
-    c.build_times.result c.in_ok-rest.ensures.grows c.in_ok-rest.ensures.leads c.build_times.ensures.grows
-    c.build_times.ensures.leads
+    c.args.limits.1 (Matches c.args.part.now) c.build_times.result c.in_ok-rest.ensures.grows
+    c.in_ok-rest.ensures.leads c.build_times.ensures.grows c.build_times.ensures.leads
 
 pub build_more-returns-then-most-limits-clause-leads : goal.build_more-returns-then-most-limits-clause-leads
 build_more-returns-then-most-limits-clause-leads t c =
     stop_arm c.args.nfa.now c.add.new.self c.args.next (Matches c.args.part.now) c.args.limits.0 c.in-Some.most
-    c.args.limits.1 c.add.result
-    c.in-Some.is c.if-most-limits.true c.add.ensures.added c.add.ensures.number
+    c.args.limits.1 c.add.result c.in-Some.is c.if-most-limits.true c.add.ensures.added c.add.ensures.number
 
 pub build_more-returns-else-most-limits-clause-leads : goal.build_more-returns-else-most-limits-clause-leads
 build_more-returns-else-most-limits-clause-leads t c =
     optional_arm c.args.nfa.now c.build_optional.new.nfa c.args.next (Matches c.args.part.now) c.args.limits.0
-    c.in-Some.most c.args.limits.1 c.build_optional.result
-    c.in-Some.is c.if-most-limits.false c.build_optional.ensures.leads
+    c.in-Some.most c.args.limits.1 c.build_optional.result c.in-Some.is c.if-most-limits.false
+    c.build_optional.ensures.leads
 
 pub build_optional-loop-init : goal.build_optional-loop-init
 build_optional-loop-init t c =
@@ -92,17 +87,14 @@ build_optional-loop-init t c =
 
 pub build_optional-loop-preserved : goal.build_optional-loop-preserved
 build_optional-loop-preserved t c =
-    let more = optional_more c.args.nfa.now c.loop.nfa c.build.new.nfa (Matches c.args.part.now) c.loop.counter c.loop.first
-    c.in_ok-one.one c.args.next
+    let more = optional_more c.args.nfa.now c.loop.nfa c.build.new.nfa (Matches c.args.part.now) c.loop.counter
+    c.loop.first c.in_ok-one.one c.args.next
     c.loop.invariant.0 c.in_ok-one.ensures.grows c.in_ok-one.ensures.leads c.add.new.self c.in_ok-first.first
     c.in_ok-first.ensures.added c.in_ok-first.ensures.number c.loop.invariant.1 in (
       more.0,
       more.1,
-      reads_then c.args.nfa.now c.build.new.nfa c.add.new.self (ranges_in c.args.part.now)
-          (reads_then c.args.nfa.now c.loop.nfa c.build.new.nfa (ranges_in c.args.part.now) c.loop.invariant.2
-          c.in_ok-one.ensures.reads)
-          (reads_push c.build.new.nfa c.add.new.self (Split c.in_ok-one.one c.args.next) (ranges_in c.args.part.now)
-          (λ all among. tt) c.in_ok-first.ensures.added),
+      optional_reads c.args.nfa.now c.loop.nfa c.build.new.nfa c.add.new.self (ranges_in c.args.part.now)
+          c.in_ok-one.one c.args.next c.loop.invariant.2 c.in_ok-one.ensures.reads c.in_ok-first.ensures.added,
     )
 
 pub build_optional-returns-clause-leads : goal.build_optional-returns-clause-leads
@@ -120,8 +112,8 @@ build_star-returns-clause-leads t c =
 
 pub build_times-loop-preserved : goal.build_times-loop-preserved
 build_times-loop-preserved t c =
-    let more = times_more c.args.nfa.now c.loop.nfa c.build.new.nfa (Matches c.args.part.now) c.loop.counter c.loop.first
-    c.in_ok-first.first c.args.next
+    let more = times_more c.args.nfa.now c.loop.nfa c.build.new.nfa (Matches c.args.part.now) c.loop.counter
+    c.loop.first c.in_ok-first.first c.args.next
     c.loop.invariant.0 c.in_ok-first.ensures.grows c.in_ok-first.ensures.leads c.loop.invariant.1 in (
       more.0,
       more.1,
@@ -181,18 +173,17 @@ build_alternatives-loop-left-init t c = (
 )
 
 pub build_alternatives-loop-left-preserved : goal.build_alternatives-loop-left-preserved
-build_alternatives-loop-left-preserved t c = (
-  c.part-item.result ∷ c.loop-left.invariant.0,
-  parts_split [] [] [] c.args.parts.now c.loop-left.left.now c.loop-left.invariant.0 c.part-item.result
-      c.loop-left.invariant.1 c.in-len1-up.len_at_least c.part-item.is,
-  c.in_ok-first-2.ensures.alternatives c.args.nfa.now c.loop-left.invariant.0 c.loop-left.invariant.2,
-  (λ all among reads. c.in_ok-first-2.ensures.reads all
-      (λ range has. among range (among_part_of c.args.parts.now
-      (take (length c.loop-left.left.now - 1) c.loop-left.left.now) c.loop-left.invariant.0 c.part-item.result
-      (parts_split [] [] [] c.args.parts.now c.loop-left.left.now c.loop-left.invariant.0 c.part-item.result
-      c.loop-left.invariant.1 c.in-len1-up.len_at_least c.part-item.is) range has))
-      (c.loop-left.invariant.3 all among reads)),
-)
+build_alternatives-loop-left-preserved t c =
+    let split = parts_split [] [] [] c.args.parts.now c.loop-left.left.now c.loop-left.invariant.0 c.part-item.result
+    c.loop-left.invariant.1 c.in-len1-up.len_at_least c.part-item.is in (
+      c.part-item.result ∷ c.loop-left.invariant.0,
+      split,
+      c.in_ok-first-2.ensures.alternatives c.args.nfa.now c.loop-left.invariant.0 c.loop-left.invariant.2,
+      (λ all among reads. c.in_ok-first-2.ensures.reads all
+          (λ range has. among range (among_part_of c.args.parts.now
+          (take (length c.loop-left.left.now - 1) c.loop-left.left.now) c.loop-left.invariant.0 c.part-item.result
+          split range has)) (c.loop-left.invariant.3 all among reads)),
+    )
 
 pub build_alternatives-returns-clause-grows : goal.build_alternatives-returns-clause-grows
 build_alternatives-returns-clause-grows t c =
