@@ -1,6 +1,7 @@
 pub mod Complements
 pub mod Covering
 pub mod Explored
+pub mod FewArcs
 pub mod Finding
 pub mod Greatest
 pub mod LeadingOn
@@ -8,5 +9,6 @@ pub mod Lookups
 pub mod OneMoreArc
 pub mod OneMoreState
 pub mod Pairs
+pub mod ProductArcs
 pub mod StateArcs
 pub mod WithArcs

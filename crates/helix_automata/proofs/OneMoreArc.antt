@@ -10,7 +10,7 @@ use Rattle.helix_automata.specs.Shape.{IsCharacter, HasCharacter, AreArcs}
 use Rattle.helix_automata.specs.Inner.WithArc.{with_arc}
 use Rattle.helix_automata.specs.Inner.Row.{IsNextCharacter, Begun, IsBegun, AreNamed, LeadsMore}
 use Rattle.helix_automata.proofs.Covering.{held, held_within}
-use Rattle.helix_automata.proofs.WithArcs.{widened, EndsBelow, with_arc-all, with_arc-in_order, with_arc-keeps, with_arc-new}
+use Rattle.helix_automata.proofs.WithArcs.{widened, EndsBelow, with_arc-all, with_arc-length, with_arc-in_order, with_arc-keeps, with_arc-new}
 
 module _ (row : List Arc) (wanted after : Option ℕ) (arc : Arc) (begun : IsBegun (record { arcs = row; next = wanted }))
     (is : wanted ≡ Some arc.first) (order : arc.first ≤ arc.last) (next : IsNextCharacter (arc.last + 1) after) where
@@ -52,6 +52,7 @@ module _ (row : List Arc) (wanted after : Option ℕ) (arc : Arc) (begun : IsBeg
     leads = leads_new;
     named = λ states low named. with_arc-all (λ a. a.to < states) (λ a. a.to < states) arc low (λ a q. q) (λ a q. q) row
         named;
+    longer = with_arc-length row arc;
   })
 
 -- all characters are held

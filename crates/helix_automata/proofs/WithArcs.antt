@@ -1,5 +1,5 @@
 -- What one more arc after others gives.
-use Rattle.std.proofs.Common.{◌≡◌, ◌≢◌, ℕ, ◌-◌, ◌<◌, ◌≤◌, zero, suc, Bool, true, false, ◌==◌, Some, List, [], ◌∷◌, ◌++◌, All, length, get_or, set, cond, arith, refl, sym, ◌∙◌, ap}
+use Rattle.std.proofs.Common.{◌≡◌, ◌≢◌, ℕ, ◌+◌, ◌-◌, ◌<◌, ◌≤◌, zero, suc, Bool, true, false, ◌==◌, Some, List, [], ◌∷◌, ◌++◌, All, length, get_or, set, cond, arith, refl, sym, ◌∙◌, ap}
 use Rattle.std.proofs.lemmas.Bool.{cond-true, cond-false, eq-eqb, eqb-true}
 use Rattle.std.proofs.lemmas.List.{get_or_default}
 use Rattle.helix_automata.specs.declared.arc.Arc.{Arc}
@@ -70,6 +70,16 @@ with_arc-all P Q item new old wide (arc ∷ []) all = by (arc.to == item.to)
 with_arc-all P Q item new old wide (arc ∷ next ∷ arcs) all =
     All-cons P arc (with_arc (next ∷ arcs) item) (old arc (All-head Q arc (next ∷ arcs) all))
     (with_arc-all P Q item new old wide (next ∷ arcs) (All-tail Q arc (next ∷ arcs) all))
+
+-- there is at most one more arc
+pub with_arc-length : (arcs : List Arc) (item : Arc) → length (with_arc arcs item) ≤ length arcs + 1
+with_arc-length [] item = omega arith
+with_arc-length (arc ∷ []) item = by (arc.to == item.to)
+  where
+    by : (b : Bool) → length (cond b (widened arc item ∷ []) (arc ∷ item ∷ [])) ≤ length (arc ∷ []) + 1
+    by true = omega arith
+    by false = omega arith
+with_arc-length (arc ∷ next ∷ arcs) item = let rest = with_arc-length (next ∷ arcs) item in omega (arith, rest)
 
 abbrev pub EndsBelow : ℕ → Arc → Type 0
 EndsBelow bound arc = arc.last < bound

@@ -1,5 +1,5 @@
 -- Deterministic automata over the characters of Unicode: their moves, and the words that they accept.
-use Rattle.std.specs.Prelude.{◌≡◌, ℕ, ◌&&◌, nat_le, if◌then◌else◌, Bool, true, Option, Some, None, List, [], ◌∷◌, slice_get, get_or}
+use Rattle.std.specs.Prelude.{◌≡◌, ℕ, ◌&&◌, nat_le, if◌then◌else◌, Bool, true, Option, Some, None, List, [], ◌∷◌, length, max, slice_get, get_or}
 use Rattle.helix_automata.specs.declared.arc.Arc.{Arc}
 
 -- the arcs of each state, and which states accept; state 0 is the start
@@ -37,3 +37,12 @@ AcceptsFrom automaton state (code ∷ word) = (next : ℕ) × Leads automaton st
 -- the word leads from the start to a state that accepts
 abbrev pub Accepts : Automaton → List ℕ → Type 0
 Accepts automaton word = AcceptsFrom automaton 0 word
+
+-- the greatest number of arcs in some lists of arcs
+abbrev pub most_in : List (List Arc) → ℕ
+most_in [] = 0
+most_in (arcs ∷ rows) = max (length arcs) (most_in rows)
+
+-- the greatest number of arcs that a state has
+abbrev pub most_arcs : Automaton → ℕ
+most_arcs automaton = most_in automaton.moves

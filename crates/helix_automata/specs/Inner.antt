@@ -1,3 +1,5 @@
+pub mod ArcEnds
+pub mod EndLaws
 pub mod Explore
 pub mod Lookup
 pub mod PairLaws

@@ -1,7 +1,7 @@
 //! A deterministic automaton.
 
-ghost use Rattle.std.specs.Prelude.{ℕ, List, ◌≡◌, ◌↔◌, ◌<◌, ◌≤◌, IsTrue, IfOk, OnOk, IsErrOf, All, Any, length, slice_get, Some};
-ghost use Rattle.helix_automata.specs.Automaton.{Automaton, Accepts, Leads, arcs_of};
+ghost use Rattle.std.specs.Prelude.{ℕ, List, ◌≡◌, ◌↔◌, ◌+◌, ◌<◌, ◌≤◌, IsTrue, IfOk, OnOk, IsErrOf, All, Any, length, slice_get, Some};
+ghost use Rattle.helix_automata.specs.Automaton.{Automaton, Accepts, Leads, arcs_of, most_arcs};
 ghost use Rattle.helix_automata.specs.Shape.{AreArcs, IsWellFormed, IsCharacter};
 
 use crate::arc::{Arc, Flags, Moves};
@@ -90,6 +90,7 @@ impl Dfa {
     pub fn range_ends(&self) -> usize
         ensures most { All (λ arcs. length arcs ≤ result) self.now.moves }
         ensures reached { Any (λ arcs. length arcs ≡ result) self.now.moves }
+        ensures value { result ≡ most_arcs self.now }
     {
         let mut most = 0;
         for arcs in self.moves.as_slice() {
@@ -133,9 +134,12 @@ impl Dfa {
     /// from both starts, so it has up to the product of their numbers; a state has fewer arcs than the two of its pair
     /// have together. Out of memory is answered too where there would be 2^32 - 1 states or more.
     pub fn product(&self, alloc: Global, other: &Dfa) -> Result<Dfa, Memory>
-        ensures { IfOk result (λ both. (word : List ℕ) → All IsCharacter word
+        ensures words { IfOk result (λ both. (word : List ℕ) → All IsCharacter word
             → Accepts both word ↔ (Accepts self.now word × Accepts other.now word)) }
+        ensures arcs { IfOk result (λ both. All (λ arcs. length arcs < most_arcs self.now + most_arcs other.now)
+            both.moves) }
     {
+        let (_moves, _rows) = (&self.moves, &other.moves);
         let (_states, _others) = (self.states(), other.states());
         let both = Both {
             left: self,

@@ -1,10 +1,10 @@
 //! The automaton of a machine, whose states are numbered as they are met.
 
-ghost use Rattle.std.specs.Prelude.{ℕ, List, [], ◌≡◌, ◌↔◌, ◌<◌, true, Some, IsTrue, IfOk, OnOk, All, length, slice_get};
+ghost use Rattle.std.specs.Prelude.{ℕ, List, [], ◌≡◌, ◌↔◌, ◌<◌, ◌≤◌, true, Some, IsTrue, IfOk, OnOk, All, length, slice_get};
 ghost use Rattle.helix_automata.specs.Automaton.{Accepts};
 ghost use Rattle.helix_automata.specs.Shape.{IsCharacter};
-ghost use Rattle.helix_automata.specs.Machine.{LeadsOn};
-ghost use Rattle.helix_automata.specs.Inner.Explore.{AreStates, KeepTheirNumbers, AreStateArcs};
+ghost use Rattle.helix_automata.specs.Machine.{LeadsOn, EndsAtMost};
+ghost use Rattle.helix_automata.specs.Inner.Explore.{AreStates, KeepTheirNumbers, AreStateArcs, AreFew};
 
 use crate::arc::{Arc, Arcs, Flags, Moves};
 use crate::dfa::Dfa;
@@ -15,7 +15,7 @@ use std::alloc::Global;
 use std::hash::Hash;
 
 /// A deterministic machine over the characters of Unicode, with states of any type. `Words machine state word` is that
-/// the machine accepts the word from the state.
+/// the machine accepts the word from the state, `IsEnd machine state code` that a step from it may end at the code.
 pub trait Machine {
     type State: Eq + Hash + Drop;
     /// Memory that one step leaves to the next.
@@ -24,6 +24,8 @@ pub trait Machine {
     ghost IsState: { Self → Self.State → Type 0 };
 
     ghost Words: { Self → Self.State → List ℕ → Type 0 };
+
+    ghost IsEnd: { Self → Self.State → ℕ → Type 0 };
 
     /// Whether a state accepts the empty word.
     fn accepts(&self, state: &Self::State) -> bool
@@ -40,7 +42,9 @@ pub trait Machine {
     ) -> Result<(Self::State, u32), Memory>
         requires state { IsState self.now state.now }
         requires character { IsCharacter first }
-        ensures { IfOk result (λ next. LeadsOn (IsState self.now) (Words self.now) state.now first next.1 next.0) };
+        ensures leads { IfOk result
+            (λ next. LeadsOn (IsState self.now) (Words self.now) state.now first next.1 next.0) }
+        ensures ends { IfOk result (λ next. IsEnd self.now state.now next.1) };
 
     ghost same_words: { (machine : Self) (one other : Self.State) → Self.State.PartialEq.eq one other ≡ true
         → (word : List ℕ) → Words machine one word ↔ Words machine other word };
@@ -59,6 +63,7 @@ fn arcs_of_state<M: Machine>(
     ensures keeps { OnOk result (KeepTheirNumbers states.old states.new) }
     ensures states { OnOk result (AreStates (M.IsState machine.now) states.new) }
     ensures arcs { IfOk result (AreStateArcs (M.Words machine.now) states.old number states.new) }
+    ensures few { IfOk result (AreFew (M.IsEnd machine.now) states.old number) }
 {
     let mut row = Row::new(alloc);
     while let Some(first) = row.next() {
@@ -81,8 +86,10 @@ pub fn explore<M: Machine>(
     scratch: &mut M::Scratch,
 ) -> Result<Dfa, Memory>
     requires { M.IsState machine.now start }
-    ensures { IfOk result (λ dfa. (word : List ℕ) → All IsCharacter word → Accepts dfa word
+    ensures words { IfOk result (λ dfa. (word : List ℕ) → All IsCharacter word → Accepts dfa word
         ↔ M.Words machine.now start word) }
+    ensures arcs { IfOk result (λ dfa. (most : ℕ) → EndsAtMost (M.IsState machine.now) (M.IsEnd machine.now) most
+        → All (λ arcs. length arcs ≤ most) dfa.moves) }
 {
     let mut states = Numbered::new(alloc);
     states.number(start)?;

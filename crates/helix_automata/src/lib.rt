@@ -14,8 +14,10 @@
 //!   one state, along arcs in order, none of which is without a character.
 //! - [`Dfa::accepts`] and [`Dfa::step`] answer by the arcs (`specs/Automaton.antt`), [`Dfa::range_ends`] with the
 //!   greatest number of arcs that a state has.
-//! - [`Dfa::product`] accepts what both accept, [`Dfa::complement`] what the automaton doesn't.
-//! - [`explore`] accepts from the start what the machine does (`specs/Machine.antt`).
+//! - [`Dfa::product`] accepts what both accept, [`Dfa::complement`] what the automaton doesn't. A state of a product
+//!   has fewer arcs than the two greatest numbers of arcs that a state of each has together.
+//! - [`explore`] accepts from the start what the machine does, and bounds the arcs of a state by the ends of the
+//!   machine's steps (`specs/Machine.antt`).
 //!
 //! What no clause says: a product has up to the product of the numbers of states, of which those are made that can be
 //! reached; neighbouring arcs that lead to one state are made one.

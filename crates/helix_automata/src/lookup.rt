@@ -1,6 +1,6 @@
 //! The arc that a code takes.
 
-ghost use Rattle.std.specs.Prelude.{ℕ, ◌≡◌, ◌<◌, ◌≤◌, Some};
+ghost use Rattle.std.specs.Prelude.{ℕ, ◌≡◌, ◌<◌, ◌≤◌, Some, Contains};
 ghost use Rattle.helix_automata.specs.Automaton.{target};
 ghost use Rattle.helix_automata.specs.Shape.{AreArcs, IsCharacter};
 ghost use Rattle.helix_automata.specs.Inner.Lookup.{IsFirstReaching};
@@ -31,6 +31,7 @@ pub fn arc_of(arcs: &[Arc], code: u32) -> Arc
     requires arcs { (states : ℕ) × AreArcs states arcs.now }
     requires character { IsCharacter code }
     ensures named { (states : ℕ) → AreArcs states arcs.now → result.to < states }
+    ensures found { Contains arcs.now result }
     ensures reaches { code ≤ result.last }
     ensures leads { (other : ℕ) → IsCharacter other → code ≤ other → other ≤ result.last
         → target arcs.now other ≡ Some result.to }

@@ -1,7 +1,8 @@
 //! The product of two automata, as a machine.
 
-ghost use Rattle.std.specs.Prelude.{◌<◌, length};
-ghost use Rattle.helix_automata.specs.Automaton.{AcceptsFrom};
+ghost use Rattle.std.specs.Prelude.{◌<◌, ◌⊎◌, length};
+ghost use Rattle.helix_automata.specs.Automaton.{AcceptsFrom, arcs_of};
+ghost use Rattle.helix_automata.specs.Inner.ArcEnds.{IsArcEnd};
 ghost use Rattle.helix_automata.specs.Inner.PairLaws.{same_pairs};
 
 use crate::dfa::Dfa;
@@ -25,6 +26,9 @@ impl<'a> Machine for Both<'a> {
     ghost IsState = { λ both pair. (pair.0 < length both.left.now.moves) × (pair.1 < length both.right.now.moves) };
 
     ghost Words = { λ both pair word. AcceptsFrom both.left.now pair.0 word × AcceptsFrom both.right.now pair.1 word };
+
+    ghost IsEnd = { λ both pair last. IsArcEnd (arcs_of both.left.now pair.0) last
+        ⊎ IsArcEnd (arcs_of both.right.now pair.1) last };
 
     fn accepts(&self, pair: &(u32, u32)) -> bool {
         self.left.accepting(pair.0) && self.right.accepting(pair.1)

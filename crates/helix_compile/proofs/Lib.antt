@@ -6,6 +6,8 @@ pub mod Closures
 pub mod EmptyWords
 pub mod Leading
 pub mod Members
+pub mod RangeEnds
+pub mod ReadRanges
 pub mod Stars
 pub mod Stepping
 pub mod Subsets

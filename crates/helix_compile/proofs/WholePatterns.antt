@@ -63,18 +63,20 @@ one_of_any code low high =
     first true false e f = cc
     first false b e f = cc
 
-is_any : (code : ℕ) → IsCharacter code → InRanges any_character code
-is_any code character = elim (or_cases _ _ character) [
-  | inl e ↦ (let w = within_range 0x20 0x7E code e in one_of_any code (omega (arith, w.0)) (omega (arith, w.1)))
+pub character_within : (code : ℕ) → IsCharacter code → (0x20 ≤ code) × (code ≤ 0x10FFFF)
+character_within code character = elim (or_cases _ _ character) [
+  | inl e ↦ (let w = within_range 0x20 0x7E code e in (omega (arith, w.0), omega (arith, w.1)))
   | inr e ↦ elim (or_cases _ _ e) [
-    | inl f ↦ (let w = within_range 0xA0 0xD7FF code f in one_of_any code (omega (arith, w.0)) (omega (arith, w.1)))
+    | inl f ↦ (let w = within_range 0xA0 0xD7FF code f in (omega (arith, w.0), omega (arith, w.1)))
     | inr f ↦ elim (or_cases _ _ f) [
-      | inl g ↦ (let w =
-          within_range 0xE000 0x10FFFF code g in one_of_any code (omega (arith, w.0)) (omega (arith, w.1)))
+      | inl g ↦ (let w = within_range 0xE000 0x10FFFF code g in (omega (arith, w.0), omega (arith, w.1)))
       | inr g ↦ cc
     ]
   ]
 ]
+
+is_any : (code : ℕ) → IsCharacter code → InRanges any_character code
+is_any code character = let within = character_within code character in one_of_any code within.0 within.1
 
 any_word : (word : List ℕ) → All IsCharacter word → AnyNumber (IsOneOf any_character) word
 any_word [] all = (0, refl)

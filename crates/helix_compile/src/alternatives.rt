@@ -6,6 +6,7 @@ ghost use Rattle.helix_expr.specs.Matching.{MatchSome};
 ghost use Rattle.helix_compile.specs.declared.nfa.State.{State};
 ghost use Rattle.helix_compile.specs.Inner.Alternatives.{AreAlternatives};
 ghost use Rattle.helix_compile.specs.Inner.Nfa.{Grows, Builds};
+ghost use Rattle.helix_compile.specs.Inner.RangeEnds.{ReadsMore};
 
 use crate::nfa::{Nfa, State};
 use helix_base::Memory;
@@ -37,6 +38,7 @@ pub fn build_chars(nfa: &mut Nfa, chars: Ranges, others: u32, next: u32) -> Resu
     ensures leads { IfOk result (λ first. (start : List State) (done : List Expr)
         → AreAlternatives start nfa.old others chars done next
         → Builds start nfa.new first (MatchSome done) next) }
+    ensures reads { OnOk result (ReadsMore nfa.old nfa.new chars) }
 {
     if chars.as_slice().is_empty() {
         return Ok(others);

@@ -1,9 +1,11 @@
 //! The subset construction: the machine whose states are sets of states of a nondeterministic automaton.
 
-ghost use Rattle.std.specs.Prelude.{◌≡◌, ◌↔◌, ℕ, List, All, Any, IsTrue, IfOk, OnOk, slice_get};
+ghost use Rattle.std.specs.Prelude.{◌≡◌, ◌↔◌, ◌++◌, ◌+◌, ◌*◌, ◌≤◌, ℕ, List, length, All, Any, IsTrue, IfOk, OnOk, slice_get};
 ghost use Rattle.helix_automata.specs.Automaton.{Accepts};
 ghost use Rattle.helix_automata.specs.Shape.{IsCharacter};
 ghost use Rattle.helix_compile.specs.Inner.Nfa.{NfaAccepts};
+ghost use Rattle.helix_compile.specs.Inner.Patterns.{any_character};
+ghost use Rattle.helix_compile.specs.Inner.RangeEnds.{IsNfaEnd, ReadsAmong};
 ghost use Rattle.helix_compile.specs.Inner.Subsets.{SomeAccepts, HasNoSplit, AcceptsEmpty};
 ghost use Rattle.helix_compile.specs.Inner.SubsetLaws.{same_sets};
 
@@ -37,6 +39,8 @@ impl<'a> Machine for Subsets<'a> {
     ghost IsState = { λ subsets set. HasNoSplit subsets.nfa.now set.items };
 
     ghost Words = { λ subsets set word. SomeAccepts subsets.nfa.now set.items word };
+
+    ghost IsEnd = { λ subsets set last. IsNfaEnd subsets.nfa.now last };
 
     fn accepts(&self, set: &Vec<u32>) -> bool {
         accepts_empty(self.nfa, set.as_slice())
@@ -74,8 +78,10 @@ fn start_set(alloc: Global, nfa: &[State], start: u32, seen: &mut Seen) -> Resul
 /// of states that can be reached together: up to 2^n for n states, though for most patterns about as many as there are
 /// states. Out of memory is answered too where there would be 2^32 - 1 or more.
 pub fn determinize(alloc: Global, nfa: &[State], start: u32) -> Result<Dfa, Memory>
-    ensures { IfOk result (λ dfa. (word : List ℕ) → All IsCharacter word → Accepts dfa word
+    ensures words { IfOk result (λ dfa. (word : List ℕ) → All IsCharacter word → Accepts dfa word
         ↔ NfaAccepts nfa.now start word) }
+    ensures arcs { IfOk result (λ dfa. (ranges : List (ℕ × ℕ)) → ReadsAmong nfa.now (any_character ++ ranges)
+        → All (λ arcs. length arcs ≤ 2 * length ranges + 1) dfa.moves) }
 {
     let mut seen = Seen::new(alloc);
     let set = start_set(alloc, nfa, start, &mut seen)?;

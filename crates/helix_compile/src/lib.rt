@@ -7,7 +7,8 @@
 //! ```
 //!
 //! What is proved: over characters, [`dfa_of`] accepts exactly the words that the pattern matches or contains
-//! (`specs/Answers.antt`, over the matching of the crate below). How large the answer is, no clause says: see its page.
+//! (`specs/Answers.antt`, over the matching of the crate below), and with n ranges in the pattern
+//! (`specs/ExprRanges.antt`) a state has at most 2n + 1 arcs. How many states it has, no clause says: see its page.
 //!
 //! The expression becomes a nondeterministic automaton by Thompson's construction (`thompson`, `alternatives`,
 //! `specs/Inner/Nfa.antt`), and that a deterministic one by the subset construction (`determinize`, `step`, `closure`,

@@ -5,6 +5,7 @@ ghost use Rattle.helix_base.specs.Alphabet.{is_in_range};
 ghost use Rattle.helix_base.specs.Ranges.{in_ranges};
 ghost use Rattle.helix_compile.specs.declared.nfa.State.TheVariants.{Split};
 ghost use Rattle.helix_compile.specs.Inner.Nfa.{NfaAccepts};
+ghost use Rattle.helix_compile.specs.Inner.RangeEnds.{IsRangeEnd, IsEndAmong, IsNfaEnd};
 ghost use Rattle.helix_compile.specs.Inner.Subsets.{SomeAccepts, HasNoSplit, IsReadAlike, LeadsTo};
 
 use crate::closure::epsilon_closure;
@@ -55,6 +56,7 @@ pub fn step(
 /// A code up to which a range holds each code as it holds this one.
 fn range_alike_up_to(range: (u32, u32), code: u32) -> u32
     ensures reached { code ≤ result }
+    ensures end { IsRangeEnd range result }
     ensures alike { (other : ℕ) → code ≤ other → other ≤ result → is_in_range other range ≡ is_in_range code range }
 {
     if code < range.0 {
@@ -69,6 +71,7 @@ fn range_alike_up_to(range: (u32, u32), code: u32) -> u32
 /// A code up to which the ranges hold each code as they hold this one.
 fn ranges_alike_up_to(ranges: &[(u32, u32)], code: u32) -> u32
     ensures reached { code ≤ result }
+    ensures end { IsEndAmong ranges.now result }
     ensures alike { (other : ℕ) → code ≤ other → other ≤ result
         → in_ranges ranges.now other ≡ in_ranges ranges.now code }
 {
@@ -82,6 +85,7 @@ fn ranges_alike_up_to(ranges: &[(u32, u32)], code: u32) -> u32
 /// A code up to which a state reads each code as it reads this one.
 fn state_alike_up_to(nfa: &[State], number: u32, code: u32) -> u32
     ensures reached { code ≤ result }
+    ensures end { IsNfaEnd nfa.now result }
     ensures alike { (other : ℕ) → code ≤ other → other ≤ result → IsReadAlike nfa.now number code other }
 {
     match read_at(nfa, number) {
@@ -93,6 +97,7 @@ fn state_alike_up_to(nfa: &[State], number: u32, code: u32) -> u32
 /// A code up to which each state of a set reads each code as it reads this one.
 pub fn alike_up_to(nfa: &[State], set: &[u32], code: u32) -> u32
     ensures reached { code ≤ result }
+    ensures end { IsNfaEnd nfa.now result }
     ensures alike { (other : ℕ) → code ≤ other → other ≤ result → (number : ℕ) → Contains set.now number
         → IsReadAlike nfa.now number code other }
 {

@@ -1,10 +1,12 @@
 //! The nondeterministic automaton of a whole pattern.
 
-ghost use Rattle.std.specs.Prelude.{ℕ, List, ◌≡◌, ◌↔◌, IfOk, OnOk, All};
+ghost use Rattle.std.specs.Prelude.{ℕ, List, ◌≡◌, ◌↔◌, ◌++◌, IfOk, OnOk, All};
 ghost use Rattle.helix_automata.specs.Shape.{IsCharacter};
 ghost use Rattle.helix_compile.specs.Answers.{Answers};
 ghost use Rattle.helix_compile.specs.Inner.Nfa.{Grows, Builds, NfaAccepts};
-ghost use Rattle.helix_compile.specs.Inner.Patterns.{Before, MatchEnds, is_open, end_state};
+ghost use Rattle.helix_compile.specs.ExprRanges.{ranges_in};
+ghost use Rattle.helix_compile.specs.Inner.RangeEnds.{ReadsAmong, ReadsMore};
+ghost use Rattle.helix_compile.specs.Inner.Patterns.{Before, MatchEnds, any_character, is_open, end_state};
 
 use crate::nfa::{Nfa, State};
 use crate::thompson::{build, build_star};
@@ -16,6 +18,7 @@ use std::alloc::Global;
 fn build_before(alloc: Global, nfa: &mut Nfa, bound: bool, next: u32) -> Result<u32, Memory>
     ensures grows { OnOk result (Grows nfa.old nfa.new) }
     ensures leads { IfOk result (λ first. Builds nfa.old nfa.new first (Before bound) next) }
+    ensures reads { OnOk result (ReadsMore nfa.old nfa.new any_character) }
 {
     if bound {
         return Ok(next);
@@ -35,6 +38,7 @@ fn build_match(
 ) -> Result<u32, Memory>
     ensures grows { OnOk result (Grows nfa.old nfa.new) }
     ensures leads { IfOk result (λ first. Builds nfa.old nfa.new first (MatchEnds regex.now containing) next) }
+    ensures reads { OnOk result (ReadsMore nfa.old nfa.new (any_character ++ ranges_in regex.now.expr)) }
 {
     if !containing {
         return build(alloc, nfa, &regex.expr, next);
@@ -56,8 +60,9 @@ fn end_of(regex: &Regex, containing: bool) -> State
 
 /// The nondeterministic automaton of a pattern, and the number of its first state.
 pub fn nfa_of(alloc: Global, regex: &Regex, containing: bool) -> Result<(Nfa, u32), Memory>
-    ensures { IfOk result (λ built. (word : List ℕ) → All IsCharacter word → NfaAccepts built.0 built.1 word
+    ensures words { IfOk result (λ built. (word : List ℕ) → All IsCharacter word → NfaAccepts built.0 built.1 word
         ↔ Answers regex.now containing word) }
+    ensures reads { IfOk result (λ built. ReadsAmong built.0 (any_character ++ ranges_in regex.now.expr)) }
 {
     let mut nfa = Nfa::new(alloc);
     let end = nfa.add(end_of(regex, containing))?;

@@ -1,7 +1,8 @@
 -- The states of a machine, numbered as they are met.
-use Rattle.std.specs.Prelude.{◌≡◌, ◌↔◌, ℕ, Some, List, ◌∷◌, length, slice_get}
+use Rattle.std.specs.Prelude.{◌≡◌, ◌↔◌, ◌≤◌, ℕ, Some, List, ◌∷◌, length, slice_get}
 use Rattle.helix_automata.specs.declared.arc.Arc.{Arc}
 use Rattle.helix_automata.specs.Automaton.{target}
+use Rattle.helix_automata.specs.Machine.{FallsAt}
 use Rattle.helix_automata.specs.Shape.{IsCharacter, AreArcs}
 
 -- each state keeps its number
@@ -32,3 +33,8 @@ pub record AreArcsOf {S : Type 0} (Words : S → List ℕ → Type 0) (state : S
 abbrev pub AreStateArcs : {S : Type 0} → (S → List ℕ → Type 0) → List S → ℕ → List S → List Arc → Type 0
 AreStateArcs {S} Words old number states arcs = (state : S) → slice_get old number ≡ Some state
     → AreArcsOf Words state states arcs
+
+-- there are at most as many arcs as the bound of a measure that falls at the ends of steps from the state with a number
+abbrev pub AreFew : {S : Type 0} → (S → ℕ → Type 0) → List S → ℕ → List Arc → Type 0
+AreFew {S} IsEnd states number arcs = (state : S) (left : ℕ → ℕ) (most : ℕ) → slice_get states number ≡ Some state
+    → FallsAt (IsEnd state) left → ((code : ℕ) → IsCharacter code → left code ≤ most) → length arcs ≤ most

@@ -1,5 +1,5 @@
 -- The arcs of a state while they are made, from the least character to the greatest.
-use Rattle.std.specs.Prelude.{◌≡◌, ℕ, ◌+◌, ◌<◌, ◌≤◌, Option, Some, IfSome, IfNone, List, All}
+use Rattle.std.specs.Prelude.{◌≡◌, ℕ, ◌+◌, ◌<◌, ◌≤◌, Option, Some, IfSome, IfNone, List, All, length}
 use Rattle.helix_base.specs.Alphabet.{ranges_of}
 use Rattle.helix_base.specs.declared.alphabet.Alphabet.TheVariants.{Unicode}
 use Rattle.helix_base.specs.Ranges.{IsLeastFrom, EndsBelow}
@@ -36,3 +36,4 @@ pub record LeadsMore (old : Begun) (arc : Arc) (new : Begun) : Type 0 where
   pub keeps : (code state : ℕ) → target old.arcs code ≡ Some state → target new.arcs code ≡ Some state
   pub leads : (code : ℕ) → arc.first ≤ code → code ≤ arc.last → target new.arcs code ≡ Some arc.to
   pub named : (states : ℕ) → arc.to < states → AreNamed states old.arcs → AreNamed states new.arcs
+  pub longer : length new.arcs ≤ length old.arcs + 1

@@ -1,8 +1,10 @@
-use Rattle.std.proofs.Common.{◌≡◌, ◌++◌, ◌+◌, ◌*◌, List, length}
+use Rattle.std.proofs.Common.{◌≡◌, ℕ, ◌++◌, ◌+◌, ◌*◌, List, length}
 use Rattle.helix_expr.specs.declared.expr.Expr.{Expr}
 use Rattle.helix_expr.specs.Matching.{Matches, MatchInOrder, Joined}
 use Rattle.helix_compile.specs.Inner.Alternatives.{AreAlternatives}
 use Rattle.helix_compile.specs.Inner.Nfa.{Grows, Builds}
+use Rattle.helix_compile.specs.ExprRanges.{ranges_in}
+use Rattle.helix_compile.specs.Inner.RangeEnds.{AreAmong, ReadsAmong, ReadsMore, ranges_of_each}
 use Rattle.helix_compile.specs.Inner.Repeats.{UpToNumber}
 use Rattle.helix_compile.proofs.thompson.+thompson.Given as goal
 
@@ -40,6 +42,7 @@ decreases-build_times l = goal.size-build_times l * 8 + 1
 abbrev pub invariant-build_in_order-loop-left : goal.invariant-build_in_order-loop-left
 invariant-build_in_order-loop-left l = Grows l.initial.nfa l.nfa
     × ((done : List Expr) × (l.parts ≡ l.left ++ done) × Builds l.initial.nfa l.nfa l.first (MatchInOrder done) l.next)
+    × ReadsMore l.initial.nfa l.nfa (ranges_of_each l.parts)
 
 abbrev pub decreases-build_in_order-loop-left : goal.decreases-build_in_order-loop-left
 decreases-build_in_order-loop-left l = length l.left
@@ -47,6 +50,8 @@ decreases-build_in_order-loop-left l = length l.left
 abbrev pub invariant-build_alternatives-loop-left : goal.invariant-build_alternatives-loop-left
 invariant-build_alternatives-loop-left l = (done : List Expr) × (l.parts ≡ l.left ++ done)
     × AreAlternatives l.fn.nfa l.nfa l.first l.chars done l.next
+    × ((all : List (ℕ × ℕ)) → AreAmong (ranges_of_each l.parts) all → ReadsAmong l.fn.nfa all
+    → AreAmong l.chars all × ReadsAmong l.nfa all)
 
 abbrev pub decreases-build_alternatives-loop-left : goal.decreases-build_alternatives-loop-left
 decreases-build_alternatives-loop-left l = length l.left
@@ -54,7 +59,9 @@ decreases-build_alternatives-loop-left l = length l.left
 abbrev pub invariant-build_optional-loop : goal.invariant-build_optional-loop
 invariant-build_optional-loop l = Grows l.initial.nfa l.nfa
     × Builds l.initial.nfa l.nfa l.first (UpToNumber (Matches l.part) l.counter) l.next
+    × ReadsMore l.initial.nfa l.nfa (ranges_in l.part)
 
 abbrev pub invariant-build_times-loop : goal.invariant-build_times-loop
 invariant-build_times-loop l = Grows l.initial.nfa l.nfa
     × Builds l.initial.nfa l.nfa l.first (Joined (Matches l.part) l.counter) l.next
+    × ReadsMore l.initial.nfa l.nfa (ranges_in l.part)

@@ -3,8 +3,8 @@ use Rattle.helix_compile.specs.Inner.Subsets.{LeadsTo}
 use Rattle.helix_compile.proofs.Subsets.{leads_on}
 use Rattle.helix_compile.proofs.determinize.SubsetsMachine.step.Goals as goal
 
-pub returns : goal.returns
-returns c = record {
+pub returns-clause-leads : goal.returns-clause-leads
+returns-clause-leads c = record {
   reached = c.alike_up_to.ensures.reached;
   is_state = c.in_ok-step.ensures.no_split;
   leads = λ code character low high word. leads_on c.args.self.now.nfa.now c.args.set.now.items c.requires.state
