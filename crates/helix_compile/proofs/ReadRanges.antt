@@ -3,39 +3,39 @@ use Rattle.std.proofs.Common.{◌≡◌, inl, inr, ℕ, Bool, true, false, Optio
 use Rattle.std.proofs.lemmas.List.Elements.{All-nil, All-push, All-set, Contains-append_left, Contains-append_right, Contains-append_cases}
 use Rattle.helix_expr.specs.declared.expr.Expr.{Expr, Empty, Chars}
 use Rattle.helix_expr.specs.declared.expr.Expr.TheViews.{Seq, Alt, Repeat}
-use Rattle.helix_compile.specs.ExprRanges.{ranges_in}
+use Rattle.helix_compile.specs.ExprRanges.{expr_ranges}
 use Rattle.helix_compile.specs.declared.nfa.State.{State}
 use Rattle.helix_compile.specs.declared.nfa.State.TheVariants.{Fail, Read, Split}
 use Rattle.helix_compile.specs.Inner.Patterns.{any_character, end_state}
 use Rattle.helix_compile.specs.Inner.RangeEnds.{AreAmong, ReadsOnly, ReadsAmong, ReadsMore, ranges_of_each}
 
 -- the ranges of the parts of an expression, said of their list as code sees it
-ranges-Seq : (parts : List Expr) → ranges_in (Seq parts) ≡ ranges_of_each parts
+ranges-Seq : (parts : List Expr) → expr_ranges (Seq parts) ≡ ranges_of_each parts
 unfolding Rattle.helix_expr.specs.declared.expr.Expr.TheBlock.hidden-the_row-Expr-0 denote.Hole.Carrier.hidden
 ranges-Seq [] = refl
-ranges-Seq (part ∷ parts) = ap (λ l. ranges_in part ++ l) (ranges-Seq parts)
+ranges-Seq (part ∷ parts) = ap (λ l. expr_ranges part ++ l) (ranges-Seq parts)
 
-ranges-Alt : (parts : List Expr) → ranges_in (Alt parts) ≡ ranges_of_each parts
+ranges-Alt : (parts : List Expr) → expr_ranges (Alt parts) ≡ ranges_of_each parts
 unfolding Rattle.helix_expr.specs.declared.expr.Expr.TheBlock.hidden-the_row-Expr-0 denote.Hole.Carrier.hidden
 ranges-Alt [] = refl
-ranges-Alt (part ∷ parts) = ap (λ l. ranges_in part ++ l) (ranges-Alt parts)
+ranges-Alt (part ∷ parts) = ap (λ l. expr_ranges part ++ l) (ranges-Alt parts)
 
-ranges-Repeat : (part : Expr) (least : ℕ) (most : Option ℕ) → ranges_in (Repeat part least most) ≡ ranges_in part ++ []
+ranges-Repeat : (part : Expr) (least : ℕ) (most : Option ℕ) → expr_ranges (Repeat part least most) ≡ expr_ranges part ++ []
 unfolding Rattle.helix_expr.specs.declared.expr.Expr.TheBlock.hidden-the_row-Expr-1 denote.Hole.Carrier.hidden
 ranges-Repeat part least most = refl
 
 -- the ranges of a part are among those of all
 pub among_part : (before after : List Expr) (part : Expr)
-    → AreAmong (ranges_in part) (ranges_of_each (before ++ part ∷ after))
-among_part [] after part range has = Contains-append_left (ranges_in part) (ranges_of_each after) range has
+    → AreAmong (expr_ranges part) (ranges_of_each (before ++ part ∷ after))
+among_part [] after part range has = Contains-append_left (expr_ranges part) (ranges_of_each after) range has
 among_part (first ∷ before) after part range has =
-    Contains-append_right (ranges_in first) (ranges_of_each (before ++ part ∷ after)) range
+    Contains-append_right (expr_ranges first) (ranges_of_each (before ++ part ∷ after)) range
     (among_part before after part range has)
 
 pub among_part_of : (parts before after : List Expr) (part : Expr) → parts ≡ before ++ part ∷ after
-    → AreAmong (ranges_in part) (ranges_of_each parts)
+    → AreAmong (expr_ranges part) (ranges_of_each parts)
 among_part_of parts before after part is =
-    subst (λ l. AreAmong (ranges_in part) (ranges_of_each l)) (sym is) (among_part before after part)
+    subst (λ l. AreAmong (expr_ranges part) (ranges_of_each l)) (sym is) (among_part before after part)
 
 -- no more is read
 pub reads_none : (nfa : List State) (ranges : List (ℕ × ℕ)) → ReadsMore nfa nfa ranges
@@ -65,10 +65,10 @@ reads_within a b ranges more among_more one all among reads =
 
 -- one more part
 pub reads_part : (a b c : List State) (parts before after : List Expr) (part : Expr) → parts ≡ before ++ part ∷ after
-    → ReadsMore a b (ranges_of_each parts) → ReadsMore b c (ranges_in part) → ReadsMore a c (ranges_of_each parts)
+    → ReadsMore a b (ranges_of_each parts) → ReadsMore b c (expr_ranges part) → ReadsMore a c (ranges_of_each parts)
 reads_part a b c parts before after part is one other =
     reads_then a b c (ranges_of_each parts) one
-    (reads_within b c (ranges_in part) (ranges_of_each parts) (among_part_of parts before after part is) other)
+    (reads_within b c (expr_ranges part) (ranges_of_each parts) (among_part_of parts before after part is) other)
 
 -- one time more, or none
 pub optional_reads : (a b c d : List State) (ranges : List (ℕ × ℕ)) (one next : ℕ) → ReadsMore a b ranges
@@ -96,42 +96,42 @@ ok_always (Err y) Q h = tt
 
 pub chars_reads : {Y : Type 0} (a b : List State) (expr : Expr) (ranges copy : List (ℕ × ℕ)) (next : ℕ) (r : Result ℕ Y)
     → expr ≡ Chars ranges → copy ≡ ranges → OnOk r (b ≡ a ++ Read copy next ∷ [])
-    → OnOk r (ReadsMore a b (ranges_in expr))
+    → OnOk r (ReadsMore a b (expr_ranges expr))
 chars_reads a b expr ranges copy next r is same added =
-    ok_reads r (b ≡ a ++ Read copy next ∷ []) (ReadsMore a b (ranges_in expr)) (λ at.
-    subst (λ e. ReadsMore a b (ranges_in e)) (sym is)
+    ok_reads r (b ≡ a ++ Read copy next ∷ []) (ReadsMore a b (expr_ranges expr)) (λ at.
+    subst (λ e. ReadsMore a b (expr_ranges e)) (sym is)
     (reads_push a b (Read copy next) ranges (λ all among. subst (λ l. AreAmong l all) (sym same) among) at)) added
 
 pub seq_reads : {Y : Type 0} (a b : List State) (expr : Expr) (parts borrowed : List Expr) (r : Result ℕ Y)
     → expr ≡ Seq parts → borrowed ≡ parts → OnOk r (ReadsMore a b (ranges_of_each borrowed))
-    → OnOk r (ReadsMore a b (ranges_in expr))
+    → OnOk r (ReadsMore a b (expr_ranges expr))
 seq_reads a b expr parts borrowed r is same reads =
     subst (λ l. OnOk r (ReadsMore a b l))
-    (ap ranges_of_each same ∙ (sym (ranges-Seq parts) ∙ ap ranges_in (sym is))) reads
+    (ap ranges_of_each same ∙ (sym (ranges-Seq parts) ∙ ap expr_ranges (sym is))) reads
 
 pub alt_reads : {Y : Type 0} (a b : List State) (expr : Expr) (parts borrowed : List Expr) (r : Result ℕ Y)
     → expr ≡ Alt parts → borrowed ≡ parts → OnOk r (ReadsMore a b (ranges_of_each borrowed))
-    → OnOk r (ReadsMore a b (ranges_in expr))
+    → OnOk r (ReadsMore a b (expr_ranges expr))
 alt_reads a b expr parts borrowed r is same reads =
     subst (λ l. OnOk r (ReadsMore a b l))
-    (ap ranges_of_each same ∙ (sym (ranges-Alt parts) ∙ ap ranges_in (sym is))) reads
+    (ap ranges_of_each same ∙ (sym (ranges-Alt parts) ∙ ap expr_ranges (sym is))) reads
 
 pub repeat_reads : {Y : Type 0} (a b : List State) (expr part borrowed : Expr) (least : ℕ) (most : Option ℕ)
-    (r : Result ℕ Y) → expr ≡ Repeat part least most → borrowed ≡ part → OnOk r (ReadsMore a b (ranges_in borrowed))
-    → OnOk r (ReadsMore a b (ranges_in expr))
+    (r : Result ℕ Y) → expr ≡ Repeat part least most → borrowed ≡ part → OnOk r (ReadsMore a b (expr_ranges borrowed))
+    → OnOk r (ReadsMore a b (expr_ranges expr))
 repeat_reads a b expr part borrowed least most r is same reads =
     subst (λ l. OnOk r (ReadsMore a b l))
-    (ap ranges_in same ∙ (sym (append-nil (ranges_in part)) ∙ (sym (ranges-Repeat part least most)
-    ∙ ap ranges_in (sym is)))) reads
+    (ap expr_ranges same ∙ (sym (append-nil (expr_ranges part)) ∙ (sym (ranges-Repeat part least most)
+    ∙ ap expr_ranges (sym is)))) reads
 
 -- an alternative that is one character is gathered
 pub gathered_reads : (nfa : List State) (chars ranges new : List (ℕ × ℕ)) (part : Expr) → part ≡ Chars ranges
-    → new ≡ chars ++ ranges → (all : List (ℕ × ℕ)) → AreAmong (ranges_in part) all
+    → new ≡ chars ++ ranges → (all : List (ℕ × ℕ)) → AreAmong (expr_ranges part) all
     → AreAmong chars all × ReadsAmong nfa all → AreAmong new all × ReadsAmong nfa all
 gathered_reads nfa chars ranges new part is added all among both = (
   (λ range has. elim (Contains-append_cases chars ranges range (subst (λ l. Contains l range) added has)) [
     | inl old ↦ both.0 range old
-    | inr more ↦ among range (subst (λ e. Contains (ranges_in e) range) (sym is) more)
+    | inr more ↦ among range (subst (λ e. Contains (expr_ranges e) range) (sym is) more)
   ]),
   both.1,
 )

@@ -4,14 +4,14 @@ use Rattle.helix_expr.specs.declared.expr.Expr.{Expr, Empty, Chars, Seq', Alt', 
 
 abbrev mutual
   -- the ranges of an expression, those of a part that is repeated once
-  pub ranges_in : Expr → List (ℕ × ℕ)
-  ranges_in Empty = []
-  ranges_in (Chars ranges) = ranges
-  ranges_in (Seq' shape parts) = ranges_in_parts parts
-  ranges_in (Alt' shape parts) = ranges_in_parts parts
-  ranges_in (Repeat' pointer part least most) = ranges_in_parts part
+  pub expr_ranges : Expr → List (ℕ × ℕ)
+  expr_ranges Empty = []
+  expr_ranges (Chars ranges) = ranges
+  expr_ranges (Seq' shape parts) = expr_ranges_of_parts parts
+  expr_ranges (Alt' shape parts) = expr_ranges_of_parts parts
+  expr_ranges (Repeat' pointer part least most) = expr_ranges_of_parts part
 
   -- the ranges of all parts
-  pub ranges_in_parts : {m : _} → Row_of-Expr m → List (ℕ × ℕ)
-  ranges_in_parts end_of-Expr = []
-  ranges_in_parts (more_of-Expr part parts) = ranges_in part ++ ranges_in_parts parts
+  pub expr_ranges_of_parts : {m : _} → Row_of-Expr m → List (ℕ × ℕ)
+  expr_ranges_of_parts end_of-Expr = []
+  expr_ranges_of_parts (more_of-Expr part parts) = expr_ranges part ++ expr_ranges_of_parts parts

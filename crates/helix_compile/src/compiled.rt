@@ -4,7 +4,7 @@ ghost use Rattle.std.specs.Prelude.{ℕ, List, ◌↔◌, ◌+◌, ◌*◌, ◌�
 ghost use Rattle.helix_automata.specs.Automaton.{Accepts};
 ghost use Rattle.helix_automata.specs.Shape.{IsCharacter};
 ghost use Rattle.helix_compile.specs.Answers.{Answers};
-ghost use Rattle.helix_compile.specs.ExprRanges.{ranges_in};
+ghost use Rattle.helix_compile.specs.ExprRanges.{expr_ranges};
 
 use crate::determinize::determinize;
 use crate::whole::nfa_of;
@@ -24,7 +24,7 @@ pub fn dfa_of(alloc: Global, regex: &Regex, containing: bool) -> Result<Dfa, Mem
     ensures words { IfOk result (λ dfa. (word : List ℕ) → All IsCharacter word → Accepts dfa word
         ↔ Answers regex.now containing word) }
     ensures arcs { IfOk result
-        (λ dfa. All (λ arcs. length arcs ≤ 2 * length (ranges_in regex.now.expr) + 1) dfa.moves) }
+        (λ dfa. All (λ arcs. length arcs ≤ 2 * length (expr_ranges regex.now.expr) + 1) dfa.moves) }
 {
     let (nfa, first) = nfa_of(alloc, regex, containing)?;
     determinize(alloc, nfa.as_slice(), first)

@@ -6,7 +6,7 @@ ghost use Rattle.helix_expr.specs.Matching.{Matches, MatchInOrder, MatchSome, Jo
 ghost use Rattle.helix_compile.specs.declared.nfa.State.{State};
 ghost use Rattle.helix_compile.specs.Inner.Nfa.{Grows, Builds};
 ghost use Rattle.helix_compile.specs.Inner.Alternatives.{AreAlternatives};
-ghost use Rattle.helix_compile.specs.ExprRanges.{ranges_in};
+ghost use Rattle.helix_compile.specs.ExprRanges.{expr_ranges};
 ghost use Rattle.helix_compile.specs.Inner.RangeEnds.{AreAmong, ReadsAmong, ReadsMore, ranges_of_each};
 ghost use Rattle.helix_compile.specs.Inner.Repeats.{AnyNumber, UpToNumber, RepeatsMore};
 
@@ -22,7 +22,7 @@ use std::alloc::Global;
 pub fn build(alloc: Global, nfa: &mut Nfa, expr: &Expr, next: u32) -> Result<u32, Memory>
     ensures grows { OnOk result (Grows nfa.old nfa.new) }
     ensures leads { IfOk result (λ first. Builds nfa.old nfa.new first (Matches expr.now) next) }
-    ensures reads { OnOk result (ReadsMore nfa.old nfa.new (ranges_in expr.now)) }
+    ensures reads { OnOk result (ReadsMore nfa.old nfa.new (expr_ranges expr.now)) }
 {
     match expr {
         Expr::Empty => Ok(next),
@@ -68,7 +68,7 @@ fn build_alternative(
     ensures alternatives { IfOk result (λ first. (start : List State) (done : List Expr)
         → AreAlternatives start nfa.old ends.0 chars.old done ends.1
         → AreAlternatives start nfa.new first chars.new (part.now ∷ done) ends.1) }
-    ensures reads { OnOk result ((all : List (ℕ × ℕ)) → AreAmong (ranges_in part.now) all
+    ensures reads { OnOk result ((all : List (ℕ × ℕ)) → AreAmong (expr_ranges part.now) all
         → AreAmong chars.old all × ReadsAmong nfa.old all → AreAmong chars.new all × ReadsAmong nfa.new all) }
 {
     let (others, next) = ends;
@@ -114,7 +114,7 @@ fn build_repeat(
     ensures grows { OnOk result (Grows nfa.old nfa.new) }
     ensures leads { IfOk result
         (λ first. Builds nfa.old nfa.new first (Repeats (Matches part.now) limits.0 limits.1) next) }
-    ensures reads { OnOk result (ReadsMore nfa.old nfa.new (ranges_in part.now)) }
+    ensures reads { OnOk result (ReadsMore nfa.old nfa.new (expr_ranges part.now)) }
 {
     if matches_only_empty(part) {
         return build_empty_repeat(alloc, nfa, part, limits, next);
@@ -137,7 +137,7 @@ fn build_empty_repeat(
     ensures grows { OnOk result (Grows nfa.old nfa.new) }
     ensures leads { IfOk result
         (λ first. Builds nfa.old nfa.new first (Repeats (Matches part.now) limits.0 limits.1) next) }
-    ensures reads { OnOk result (ReadsMore nfa.old nfa.new (ranges_in part.now)) }
+    ensures reads { OnOk result (ReadsMore nfa.old nfa.new (expr_ranges part.now)) }
 {
     if limits.0 == 0 {
         return Ok(next);
@@ -171,7 +171,7 @@ fn build_more(
     ensures grows { OnOk result (Grows nfa.old nfa.new) }
     ensures leads { IfOk result
         (λ first. Builds nfa.old nfa.new first (RepeatsMore (Matches part.now) limits.0 limits.1) next) }
-    ensures reads { OnOk result (ReadsMore nfa.old nfa.new (ranges_in part.now)) }
+    ensures reads { OnOk result (ReadsMore nfa.old nfa.new (expr_ranges part.now)) }
 {
     match limits.1 {
         None => build_star(alloc, nfa, part, next),
@@ -190,7 +190,7 @@ fn build_more(
 pub fn build_star(alloc: Global, nfa: &mut Nfa, part: &Expr, next: u32) -> Result<u32, Memory>
     ensures grows { OnOk result (Grows nfa.old nfa.new) }
     ensures leads { IfOk result (λ first. Builds nfa.old nfa.new first (AnyNumber (Matches part.now)) next) }
-    ensures reads { OnOk result (ReadsMore nfa.old nfa.new (ranges_in part.now)) }
+    ensures reads { OnOk result (ReadsMore nfa.old nfa.new (expr_ranges part.now)) }
 {
     let split = nfa.add(State::Fail)?;
     let first = build(alloc, nfa, part, split)?;
@@ -209,7 +209,7 @@ fn build_optional(
 ) -> Result<u32, Memory>
     ensures grows { OnOk result (Grows nfa.old nfa.new) }
     ensures leads { IfOk result (λ first. Builds nfa.old nfa.new first (UpToNumber (Matches part.now) most) next) }
-    ensures reads { OnOk result (ReadsMore nfa.old nfa.new (ranges_in part.now)) }
+    ensures reads { OnOk result (ReadsMore nfa.old nfa.new (expr_ranges part.now)) }
 {
     let mut first = next;
     for _ in 0..most {
@@ -230,7 +230,7 @@ fn build_times(
 ) -> Result<u32, Memory>
     ensures grows { OnOk result (Grows nfa.old nfa.new) }
     ensures leads { IfOk result (λ first. Builds nfa.old nfa.new first (Joined (Matches part.now) count) next) }
-    ensures reads { OnOk result (ReadsMore nfa.old nfa.new (ranges_in part.now)) }
+    ensures reads { OnOk result (ReadsMore nfa.old nfa.new (expr_ranges part.now)) }
 {
     let mut first = next;
     for _ in 0..count {

@@ -4,7 +4,7 @@ ghost use Rattle.std.specs.Prelude.{ℕ, List, ◌≡◌, ◌↔◌, ◌++◌, I
 ghost use Rattle.helix_automata.specs.Shape.{IsCharacter};
 ghost use Rattle.helix_compile.specs.Answers.{Answers};
 ghost use Rattle.helix_compile.specs.Inner.Nfa.{Grows, Builds, NfaAccepts};
-ghost use Rattle.helix_compile.specs.ExprRanges.{ranges_in};
+ghost use Rattle.helix_compile.specs.ExprRanges.{expr_ranges};
 ghost use Rattle.helix_compile.specs.Inner.RangeEnds.{ReadsAmong, ReadsMore};
 ghost use Rattle.helix_compile.specs.Inner.Patterns.{Before, MatchEnds, any_character, is_open, end_state};
 
@@ -38,7 +38,7 @@ fn build_match(
 ) -> Result<u32, Memory>
     ensures grows { OnOk result (Grows nfa.old nfa.new) }
     ensures leads { IfOk result (λ first. Builds nfa.old nfa.new first (MatchEnds regex.now containing) next) }
-    ensures reads { OnOk result (ReadsMore nfa.old nfa.new (any_character ++ ranges_in regex.now.expr)) }
+    ensures reads { OnOk result (ReadsMore nfa.old nfa.new (any_character ++ expr_ranges regex.now.expr)) }
 {
     if !containing {
         return build(alloc, nfa, &regex.expr, next);
@@ -62,7 +62,7 @@ fn end_of(regex: &Regex, containing: bool) -> State
 pub fn nfa_of(alloc: Global, regex: &Regex, containing: bool) -> Result<(Nfa, u32), Memory>
     ensures words { IfOk result (λ built. (word : List ℕ) → All IsCharacter word → NfaAccepts built.0 built.1 word
         ↔ Answers regex.now containing word) }
-    ensures reads { IfOk result (λ built. ReadsAmong built.0 (any_character ++ ranges_in regex.now.expr)) }
+    ensures reads { IfOk result (λ built. ReadsAmong built.0 (any_character ++ expr_ranges regex.now.expr)) }
 {
     let mut nfa = Nfa::new(alloc);
     let end = nfa.add(end_of(regex, containing))?;

@@ -1,7 +1,7 @@
 -- The ends of the ranges that states read.
 use Rattle.std.specs.Prelude.{◌≡◌, ◌⊎◌, ℕ, ◌+◌, ◌≤◌, List, [], ◌∷◌, ◌++◌, All, Contains}
 use Rattle.helix_expr.specs.declared.expr.Expr.{Expr}
-use Rattle.helix_compile.specs.ExprRanges.{ranges_in}
+use Rattle.helix_compile.specs.ExprRanges.{expr_ranges}
 use Rattle.helix_compile.specs.declared.nfa.State.{State}
 use Rattle.helix_compile.specs.declared.nfa.State.TheVariants.{Accept, AcceptAll, Fail, Read, Split}
 
@@ -36,7 +36,7 @@ IsNfaEnd nfa last = (all : List (ℕ × ℕ)) → ReadsAmong nfa all → IsEndAm
 -- the ranges of the expressions of a list
 abbrev pub ranges_of_each : List Expr → List (ℕ × ℕ)
 ranges_of_each [] = []
-ranges_of_each (part ∷ parts) = ranges_in part ++ ranges_of_each parts
+ranges_of_each (part ∷ parts) = expr_ranges part ++ ranges_of_each parts
 
 -- what the new states read, beyond what the old ones do, is among these ranges
 abbrev pub ReadsMore : List State → List State → List (ℕ × ℕ) → Type 0

@@ -7,7 +7,7 @@ use Rattle.helix_compile.specs.Inner.Nfa.{Builds}
 use Rattle.helix_compile.specs.Inner.Repeats.{UpToNumber}
 use Rattle.helix_compile.proofs.Arms.{parts_split, ok_map, empty_arm, chars_arm, seq_arm, alt_arm, repeat_arm, star_arm, stop_arm, optional_arm, repeated_arm, ok_grows, in_order_more, times_more, optional_start, optional_more, unasked_arm, never_arm, once_arm}
 use Rattle.helix_compile.proofs.Gathering.{alternatives_none, alternative_gathered, alternative_built, ok_grows_more, all_built}
-use Rattle.helix_compile.specs.ExprRanges.{ranges_in}
+use Rattle.helix_compile.specs.ExprRanges.{expr_ranges}
 use Rattle.helix_compile.specs.Inner.RangeEnds.{ranges_of_each}
 use Rattle.helix_compile.proofs.ReadRanges.{among_part_of, reads_none, reads_then, optional_reads, reads_part, alternatives_read_none, chars_reads, seq_reads, alt_reads, repeat_reads, gathered_reads, split_reads, all_read, then_reads, star_reads}
 use Rattle.helix_compile.proofs.Stars.{builds_star}
@@ -83,7 +83,7 @@ build_more-returns-else-most-limits-clause-leads t c =
 pub build_optional-loop-init : goal.build_optional-loop-init
 build_optional-loop-init t c =
     let start = optional_start c.args.nfa.now (Matches c.args.part.now) c.args.next in
-    (start.0, start.1, reads_none c.args.nfa.now (ranges_in c.args.part.now))
+    (start.0, start.1, reads_none c.args.nfa.now (expr_ranges c.args.part.now))
 
 pub build_optional-loop-preserved : goal.build_optional-loop-preserved
 build_optional-loop-preserved t c =
@@ -93,7 +93,7 @@ build_optional-loop-preserved t c =
     c.in_ok-first.ensures.added c.in_ok-first.ensures.number c.loop.invariant.1 in (
       more.0,
       more.1,
-      optional_reads c.args.nfa.now c.loop.nfa c.build.new.nfa c.add.new.self (ranges_in c.args.part.now)
+      optional_reads c.args.nfa.now c.loop.nfa c.build.new.nfa c.add.new.self (expr_ranges c.args.part.now)
           c.in_ok-one.one c.args.next c.loop.invariant.2 c.in_ok-one.ensures.reads c.in_ok-first.ensures.added,
     )
 
@@ -117,7 +117,7 @@ build_times-loop-preserved t c =
     c.loop.invariant.0 c.in_ok-first.ensures.grows c.in_ok-first.ensures.leads c.loop.invariant.1 in (
       more.0,
       more.1,
-      reads_then c.args.nfa.now c.loop.nfa c.build.new.nfa (ranges_in c.args.part.now) c.loop.invariant.2
+      reads_then c.args.nfa.now c.loop.nfa c.build.new.nfa (expr_ranges c.args.part.now) c.loop.invariant.2
           c.in_ok-first.ensures.reads,
     )
 
@@ -229,7 +229,7 @@ build_alternative-returns-in-Some-clause-reads t c =
 
 pub build_alternative-returns-clause-reads : goal.build_alternative-returns-clause-reads
 build_alternative-returns-clause-reads t c =
-    split_reads c.args.nfa.now c.build.new.nfa c.add.new.self c.args.chars.now (ranges_in c.args.part.now)
+    split_reads c.args.nfa.now c.build.new.nfa c.add.new.self c.args.chars.now (expr_ranges c.args.part.now)
     c.in_ok-first.first c.args.ends.0 c.add.result c.in_ok-first.ensures.reads c.add.ensures.added
 
 pub build_alternatives-returns-clause-reads : goal.build_alternatives-returns-clause-reads
@@ -239,11 +239,11 @@ build_alternatives-returns-clause-reads t c =
 
 pub build_repeat-returns-clause-reads : goal.build_repeat-returns-clause-reads
 build_repeat-returns-clause-reads t c =
-    then_reads c.args.nfa.now c.build_more.new.nfa c.build_times.new.nfa (ranges_in c.args.part.now)
+    then_reads c.args.nfa.now c.build_more.new.nfa c.build_times.new.nfa (expr_ranges c.args.part.now)
     c.build_times.result c.in_ok-rest.ensures.reads c.build_times.ensures.reads
 
 pub build_star-returns-clause-reads : goal.build_star-returns-clause-reads
 build_star-returns-clause-reads t c =
-    star_reads c.args.nfa.now c.add.new.self c.build.new.nfa c.replace.new.self (ranges_in c.args.part.now)
+    star_reads c.args.nfa.now c.add.new.self c.build.new.nfa c.replace.new.self (expr_ranges c.args.part.now)
     c.in_ok-split.split c.in_ok-first.first c.args.next c.in_ok-split.ensures.added c.in_ok-first.ensures.reads
     c.replace.ensures

@@ -3,7 +3,7 @@ use Rattle.helix_expr.specs.declared.expr.Expr.{Expr}
 use Rattle.helix_expr.specs.Matching.{Matches, MatchInOrder, Joined}
 use Rattle.helix_compile.specs.Inner.Alternatives.{AreAlternatives}
 use Rattle.helix_compile.specs.Inner.Nfa.{Grows, Builds}
-use Rattle.helix_compile.specs.ExprRanges.{ranges_in}
+use Rattle.helix_compile.specs.ExprRanges.{expr_ranges}
 use Rattle.helix_compile.specs.Inner.RangeEnds.{AreAmong, ReadsAmong, ReadsMore, ranges_of_each}
 use Rattle.helix_compile.specs.Inner.Repeats.{UpToNumber}
 use Rattle.helix_compile.proofs.thompson.+thompson.Given as goal
@@ -59,9 +59,9 @@ decreases-build_alternatives-loop-left l = length l.left
 abbrev pub invariant-build_optional-loop : goal.invariant-build_optional-loop
 invariant-build_optional-loop l = Grows l.initial.nfa l.nfa
     × Builds l.initial.nfa l.nfa l.first (UpToNumber (Matches l.part) l.counter) l.next
-    × ReadsMore l.initial.nfa l.nfa (ranges_in l.part)
+    × ReadsMore l.initial.nfa l.nfa (expr_ranges l.part)
 
 abbrev pub invariant-build_times-loop : goal.invariant-build_times-loop
 invariant-build_times-loop l = Grows l.initial.nfa l.nfa
     × Builds l.initial.nfa l.nfa l.first (Joined (Matches l.part) l.counter) l.next
-    × ReadsMore l.initial.nfa l.nfa (ranges_in l.part)
+    × ReadsMore l.initial.nfa l.nfa (expr_ranges l.part)

@@ -1,4 +1,4 @@
-use Rattle.helix_compile.specs.ExprRanges.{ranges_in}
+use Rattle.helix_compile.specs.ExprRanges.{expr_ranges}
 use Rattle.helix_compile.proofs.WholePatterns.{match_alone, match_within}
 use Rattle.helix_compile.proofs.ReadRanges.{match_reads, match_after_reads}
 use Rattle.helix_compile.proofs.whole.build_match.Goals as goal
@@ -17,9 +17,9 @@ returns-clause-leads c =
 
 pub returns-then-not-containing-clause-reads : goal.returns-then-not-containing-clause-reads
 returns-then-not-containing-clause-reads c =
-    match_reads c.args.nfa.now c.build.new.nfa (ranges_in c.args.regex.now.expr) c.build.result c.build.ensures.reads
+    match_reads c.args.nfa.now c.build.new.nfa (expr_ranges c.args.regex.now.expr) c.build.result c.build.ensures.reads
 
 pub returns-clause-reads : goal.returns-clause-reads
 returns-clause-reads c =
-    match_after_reads c.args.nfa.now c.build-2.new.nfa c.build_before.new.nfa (ranges_in c.args.regex.now.expr)
+    match_after_reads c.args.nfa.now c.build-2.new.nfa c.build_before.new.nfa (expr_ranges c.args.regex.now.expr)
     c.build_before.result c.in_ok-middle.ensures.reads c.build_before.ensures.reads

@@ -1,5 +1,5 @@
 use Rattle.std.proofs.Common.{◌∙◌, ap, ◌++◌, ◌∷◌, [], length}
-use Rattle.helix_compile.specs.ExprRanges.{ranges_in}
+use Rattle.helix_compile.specs.ExprRanges.{expr_ranges}
 use Rattle.helix_compile.specs.Inner.Patterns.{any_character, is_open}
 use Rattle.helix_compile.proofs.ReadRanges.{whole_reads}
 use Rattle.helix_compile.proofs.WholePatterns.{whole_pattern}
@@ -14,5 +14,5 @@ returns-clause-words c = whole_pattern c.add.new.self c.build_match.new.nfa c.in
 
 pub returns-clause-reads : goal.returns-clause-reads
 returns-clause-reads c = whole_reads c.new-nfa.result c.add.new.self c.build_match.new.nfa
-    (any_character ++ ranges_in c.args.regex.now.expr) c.end_of.result (is_open c.args.regex.now c.args.containing)
+    (any_character ++ expr_ranges c.args.regex.now.expr) c.end_of.result (is_open c.args.regex.now c.args.containing)
     c.new-nfa.ensures c.end_of.ensures c.in_ok-end.ensures.added c.in_ok-first.ensures.reads
