@@ -20,7 +20,8 @@ unfolding Rattle.helix_expr.specs.declared.expr.Expr.TheBlock.hidden-the_row-Exp
 ranges-Alt [] = refl
 ranges-Alt (part ∷ parts) = ap (λ l. expr_ranges part ++ l) (ranges-Alt parts)
 
-ranges-Repeat : (part : Expr) (least : ℕ) (most : Option ℕ) → expr_ranges (Repeat part least most) ≡ expr_ranges part ++ []
+ranges-Repeat : (part : Expr) (least : ℕ) (most : Option ℕ) → expr_ranges (Repeat part least most) ≡ expr_ranges part
+    ++ []
 unfolding Rattle.helix_expr.specs.declared.expr.Expr.TheBlock.hidden-the_row-Expr-1 denote.Hole.Carrier.hidden
 ranges-Repeat part least most = refl
 
