@@ -2,7 +2,7 @@
 
 ghost use Rattle.std.specs.Prelude.{◌≡◌, ◌≤◌, length};
 ghost use Rattle.helix_values.specs.declared.cell.Cell.TheVariants as cells;
-ghost use Rattle.helix_values.specs.Slot.{FitsSlot};
+ghost use Rattle.helix_values.specs.Slot.{FitsSlot, HasRoom, lengthened, shortened};
 ghost use Rattle.helix_values.specs.View.{cell_of};
 
 use crate::cell::CellRef;
@@ -53,6 +53,21 @@ impl Slot {
                 self.held = Held::Text;
             }
         }
+    }
+
+    /// Puts one more character behind the text that the slot holds.
+    pub fn push(&mut self, code: u32)
+        requires { HasRoom self.old }
+        ensures { self.new ≡ lengthened self.old code }
+    {
+        self.text.push(code);
+    }
+
+    /// Leaves the first characters of the text that the slot holds, all where it has no more. Another cell stays.
+    pub fn truncate(&mut self, count: usize)
+        ensures { self.new ≡ shortened self.old count }
+    {
+        self.text.truncate(count);
     }
 
     /// The cell that the slot holds.

@@ -30,6 +30,22 @@ fn slots_hold_cells(rt: HostRuntime) {
 }
 
 #[test]
+fn slots_take_characters_one_by_one(rt: HostRuntime) {
+    let mut slot = Slot::new();
+    slot.truncate(0);
+    assert_eq!(rt; slot.view(), CellRef::Null);
+    slot.set(CellRef::Text([0x61, 0x62].as_slice()));
+    slot.truncate(5);
+    slot.push(0x63);
+    assert_eq!(rt; slot.view(), CellRef::Text([0x61, 0x62, 0x63].as_slice()));
+    slot.truncate(1);
+    slot.push(0x10_FFFF);
+    assert_eq!(rt; slot.view(), CellRef::Text([0x61, 0x10_FFFF].as_slice()));
+    slot.truncate(0);
+    assert_eq!(rt; slot.view(), CellRef::Text([].as_slice()));
+}
+
+#[test]
 fn rows_are_ordered_by_the_first_difference(rt: HostRuntime) -> Result<(), Fail> {
     let cases = [
         (CellRef::Number(1), CellRef::Number(9), Ordering::Less),
