@@ -3,6 +3,7 @@ mod made;
 mod null_rule;
 mod patterns;
 mod relations;
+mod steps;
 mod trade;
 mod worked_rows;
 
@@ -11,9 +12,10 @@ use crate::laws::{
     the_answer_is_a_rest, the_rest_is_a_prefix, violating_replaces,
 };
 use crate::{Compare, Constraint, Profile};
-use build::{Check, Step, Value, constraints, fields};
+use build::{Check, Step, Value, fields};
 use helix_values::Kind;
 use std::test::Fail;
+use steps::constraints;
 
 #[test]
 fn profiles_are_built_and_copied(rt: HostRuntime) -> Result<(), Fail> {

@@ -1,14 +1,9 @@
 //! What the tests build their rows and constraints from: data, as a table can hold it.
 
 use crate::tests::patterns::{Piece, regex};
-use crate::{
-    Atom, Compare, Constraint, Constraints, Field, Fields, Parts, Relation, Test, is_good_for,
-    satisfies,
-};
+use crate::{Compare, Constraint, Constraints, Field, Fields, Test, is_good_for, satisfies};
 use helix_base::{Memory, Text};
-use helix_ladders::Offset;
 use helix_values::{Cell, Cells, Kind, Row};
-use sqlite_items::Boxed;
 use std::alloc::Global;
 
 /// One, in units of 10^-15.
@@ -114,96 +109,27 @@ fn bound(compare: Compare, cell: Cell) -> Test {
     }
 }
 
-fn test(alloc: Global, check: Check<'_>) -> Result<Test, Memory> {
+/// A test that looks at one value.
+fn test_of_value(alloc: Global, check: Check<'_>) -> Result<Test, Memory> {
     match check {
-        Check::IsNull(wanted) => Ok(Test::IsNull(wanted)),
         Check::EqualTo(value) => Ok(Test::EqualTo(cell(alloc, value)?)),
         Check::InSet(values) => Ok(Test::InSet(cells(alloc, values)?)),
+        Check::Bound(compare, value) => Ok(bound(compare, cell(alloc, value)?)),
+        Check::OnGrid(level) => Ok(Test::OnGrid(level)),
+        _ => Ok(Test::IsNull(true)),
+    }
+}
+
+pub fn test(alloc: Global, check: Check<'_>) -> Result<Test, Memory> {
+    match check {
+        Check::IsNull(wanted) => Ok(Test::IsNull(wanted)),
         Check::Matching(word, pieces) => Ok(Test::Matching(regex(alloc, word, pieces)?)),
         Check::BeginningWith(word) => Ok(Test::Containing(regex(alloc, word, &[])?)),
         Check::OfLength(length) => Ok(Test::OfLength(length)),
         Check::LongerThan(length) => Ok(Test::LongerThan(length)),
         Check::ShorterThan(length) => Ok(Test::ShorterThan(length)),
-        Check::Bound(compare, value) => Ok(bound(compare, cell(alloc, value)?)),
-        Check::OnGrid(level) => Ok(Test::OnGrid(level)),
+        other => test_of_value(alloc, other),
     }
-}
-
-/// The last constraint. Where a table has too few, one that every row satisfies.
-fn last(alloc: Global, made: &mut Vec<Constraint>) -> Constraint {
-    match made.pop() {
-        Some(constraint) => constraint,
-        None => Constraint::AllOf(Parts::new(alloc)),
-    }
-}
-
-fn last_two(alloc: Global, made: &mut Vec<Constraint>) -> Result<Parts, Memory> {
-    let second = last(alloc, made);
-    let mut parts = Parts::new(alloc);
-    parts.push(last(alloc, made))?;
-    parts.push(second)?;
-    Ok(parts)
-}
-
-fn conditional(
-    alloc: Global,
-    made: &mut Vec<Constraint>,
-    otherwise: Option<Boxed<Constraint>>,
-) -> Result<Constraint, Memory> {
-    let then = Boxed::new(alloc, last(alloc, made))?;
-    let condition = Boxed::new(alloc, last(alloc, made))?;
-    Ok(Constraint::If(condition, then, otherwise))
-}
-
-fn made_by(
-    alloc: Global,
-    made: &mut Vec<Constraint>,
-    step: Step<'_>,
-) -> Result<Constraint, Memory> {
-    match step {
-        Step::Test(field, check) => Ok(Constraint::Atom(Atom {
-            field,
-            test: test(alloc, check)?,
-        })),
-        Step::Related(left, compare, right, offset) => Ok(Constraint::Related(Relation {
-            left,
-            compare,
-            right,
-            offset: Offset::Plain(offset),
-        })),
-        Step::Not => Ok(Constraint::Not(Boxed::new(alloc, last(alloc, made))?)),
-        Step::AllOf => Ok(Constraint::AllOf(last_two(alloc, made)?)),
-        Step::AnyOf => Ok(Constraint::AnyOf(last_two(alloc, made)?)),
-        Step::If => conditional(alloc, made, None),
-        Step::IfElse => {
-            let other = Boxed::new(alloc, last(alloc, made))?;
-            conditional(alloc, made, Some(other))
-        }
-    }
-}
-
-fn made(alloc: Global, steps: &[Step<'_>]) -> Result<Vec<Constraint>, Memory> {
-    let mut all = Vec::new(alloc);
-    for step in steps {
-        let constraint = made_by(alloc, &mut all, *step)?;
-        all.push(constraint)?;
-    }
-    Ok(all)
-}
-
-/// The constraints that are left after all steps.
-pub fn constraints(alloc: Global, steps: &[Step<'_>]) -> Result<Constraints, Memory> {
-    let mut all = Constraints::new(alloc);
-    for constraint in made(alloc, steps)? {
-        all.push(constraint)?;
-    }
-    Ok(all)
-}
-
-/// The one constraint that is left after all steps.
-pub fn constraint(alloc: Global, steps: &[Step<'_>]) -> Result<Constraint, Memory> {
-    let mut all = made(alloc, steps)?;
-    Ok(last(alloc, &mut all))
 }
 
 /// Whether the row of these values is good.

@@ -1,7 +1,9 @@
 use crate::Compare;
-use crate::tests::build::{Check, FIRST_OF_MARCH, Step, Value, constraint, signs};
+use crate::tests::build::{Check, FIRST_OF_MARCH, Step, Value, signs};
+use crate::tests::steps::constraint;
 use helix_base::Memory;
 use std::alloc::Global;
+use std::process::Abort;
 use std::test::Fail;
 
 /// The row 2, `ab`, 2024-03-01, 3.
@@ -20,30 +22,17 @@ fn answers(alloc: Global, steps: &[Step<'_>]) -> Result<((bool, bool), (bool, bo
     Ok((at_values, at_nulls))
 }
 
-#[test]
-fn null_satisfies_a_plain_test_and_its_negation(rt: HostRuntime) -> Result<(), Fail> {
+/// What a constraint and its negation say.
+type Signs = (bool, bool);
+
+/// Each test, on the row without a null and on that of nulls, with plus and with minus.
+fn plain_tests() -> [(u32, Check<'static>, Signs, Signs); 8] {
     let two = Value::Whole(2);
-    // Each test on a row without a null and on one of nulls, with plus and with minus.
-    let cases = [
+    let three = Value::Whole(3);
+    [
         (0, Check::IsNull(true), (false, true), (true, false)),
         (0, Check::IsNull(false), (true, false), (false, true)),
         (0, Check::EqualTo(two), (true, false), (true, true)),
-        (
-            0,
-            Check::InSet(&[Value::Whole(1)]),
-            (false, true),
-            (true, true),
-        ),
-        (
-            1,
-            Check::Matching("a", &[(&[('b', 'b')], 1, None)]),
-            (true, false),
-            (true, true),
-        ),
-        (1, Check::BeginningWith("b"), (false, true), (true, true)),
-        (1, Check::OfLength(2), (true, false), (true, true)),
-        (1, Check::LongerThan(2), (false, true), (true, true)),
-        (1, Check::ShorterThan(3), (true, false), (true, true)),
         (
             0,
             Check::Bound(Compare::Above, two),
@@ -58,19 +47,39 @@ fn null_satisfies_a_plain_test_and_its_negation(rt: HostRuntime) -> Result<(), F
         ),
         (
             0,
-            Check::Bound(Compare::Below, Value::Whole(3)),
+            Check::Bound(Compare::Below, three),
             (true, false),
             (true, true),
         ),
         (
-            0,
-            Check::Bound(Compare::AtMost, Value::Whole(1)),
+            3,
+            Check::Bound(Compare::AtMost, two),
             (false, true),
             (true, true),
         ),
         (2, Check::OnGrid(5), (true, false), (true, true)),
-    ];
-    for (field, check, at_values, at_nulls) in cases {
+    ]
+}
+
+/// The same of sets and of texts.
+fn tests_of_members() -> [(u32, Check<'static>, Signs, Signs); 5] {
+    [
+        (
+            0,
+            Check::InSet(&[Value::Whole(1)]),
+            (false, true),
+            (true, true),
+        ),
+        (1, Check::BeginningWith("b"), (false, true), (true, true)),
+        (1, Check::OfLength(2), (true, false), (true, true)),
+        (1, Check::LongerThan(2), (false, true), (true, true)),
+        (1, Check::ShorterThan(3), (true, false), (true, true)),
+    ]
+}
+
+#[test]
+fn null_satisfies_a_plain_test_and_its_negation(rt: HostRuntime) -> Result<(), Fail> {
+    for (field, check, at_values, at_nulls) in plain_tests() {
         let signs = answers(rt.alloc(), &[Step::Test(field, check)])?;
         assert_eq!(rt; signs, (at_values, at_nulls), "{check:?}");
     }
@@ -78,25 +87,101 @@ fn null_satisfies_a_plain_test_and_its_negation(rt: HostRuntime) -> Result<(), F
 }
 
 #[test]
-fn composed_constraints_at_null(rt: HostRuntime) -> Result<(), Fail> {
-    let null = Step::Test(0, Check::IsNull(true));
-    let two = Step::Test(0, Check::EqualTo(Value::Whole(2)));
-    let one = Step::Test(0, Check::InSet(&[Value::Whole(1)]));
-    let below = Step::Related(0, Compare::Below, 3, 0);
-    let cases: [(&[Step<'_>], (bool, bool), (bool, bool)); 7] = [
-        (&[below], (true, false), (true, true)),
-        (&[two, Step::Not], (false, true), (true, true)),
-        (&[two, one, Step::AllOf], (false, true), (true, true)),
-        (&[two, one, Step::AnyOf], (true, false), (true, true)),
-        (&[null, two, Step::If], (true, false), (true, true)),
-        (&[two, one, Step::If], (false, true), (true, true)),
-        (&[null, two, one, Step::IfElse], (false, true), (true, true)),
-    ];
-    for (steps, at_values, at_nulls) in cases {
-        let signs = answers(rt.alloc(), steps)?;
-        assert_eq!(rt; signs, (at_values, at_nulls), "{steps:?}");
+fn null_satisfies_tests_of_members_and_texts(rt: HostRuntime) -> Result<(), Fail> {
+    for (field, check, at_values, at_nulls) in tests_of_members() {
+        let signs = answers(rt.alloc(), &[Step::Test(field, check)])?;
+        assert_eq!(rt; signs, (at_values, at_nulls), "{check:?}");
     }
     Ok(())
+}
+
+/// Whether the first number is null, is 2, is 1, and is below the second one.
+fn null() -> Step<'static> {
+    Step::Test(0, Check::IsNull(true))
+}
+
+fn two() -> Step<'static> {
+    Step::Test(0, Check::EqualTo(Value::Whole(2)))
+}
+
+fn one() -> Step<'static> {
+    Step::Test(0, Check::InSet(&[Value::Whole(1)]))
+}
+
+fn below() -> Step<'static> {
+    Step::Related(0, Compare::Below, 3, 0)
+}
+
+/// Up to four steps that make one constraint say this, on the row without a null and on that of nulls.
+fn says(
+    rt: &impl Abort,
+    alloc: Global,
+    steps: &[Step<'_>],
+    at_values: Signs,
+    at_nulls: Signs,
+) -> Result<(), Fail> {
+    let signs = answers(alloc, steps)?;
+    assert_eq!(rt; signs, (at_values, at_nulls), "{steps:?}");
+    Ok(())
+}
+
+#[test]
+fn null_satisfies_a_pattern_and_its_negation(rt: HostRuntime) -> Result<(), Fail> {
+    let check = Check::Matching("a", &[(&[('b', 'b')], 1, None)]);
+    says(
+        &rt,
+        rt.alloc(),
+        &[Step::Test(1, check)],
+        (true, false),
+        (true, true),
+    )
+}
+
+#[test]
+fn negations_and_lists_at_null(rt: HostRuntime) -> Result<(), Fail> {
+    let alloc = rt.alloc();
+    says(&rt, alloc, &[below()], (true, false), (true, true))?;
+    says(&rt, alloc, &[two(), Step::Not], (false, true), (true, true))?;
+    says(
+        &rt,
+        alloc,
+        &[two(), one(), Step::AllOf],
+        (false, true),
+        (true, true),
+    )?;
+    says(
+        &rt,
+        alloc,
+        &[two(), one(), Step::AnyOf],
+        (true, false),
+        (true, true),
+    )
+}
+
+#[test]
+fn conditions_at_null(rt: HostRuntime) -> Result<(), Fail> {
+    let alloc = rt.alloc();
+    says(
+        &rt,
+        alloc,
+        &[null(), two(), Step::If],
+        (true, false),
+        (true, true),
+    )?;
+    says(
+        &rt,
+        alloc,
+        &[two(), one(), Step::If],
+        (false, true),
+        (true, true),
+    )?;
+    says(
+        &rt,
+        alloc,
+        &[null(), two(), one(), Step::IfElse],
+        (false, true),
+        (true, true),
+    )
 }
 
 #[test]

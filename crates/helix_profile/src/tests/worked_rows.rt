@@ -1,6 +1,10 @@
-use crate::Compare;
-use crate::tests::build::{Check, Step, Value, constraints, fields, is_good};
+use crate::tests::build::{Check, Step, Value, fields, is_good};
+use crate::tests::steps::constraints;
+use crate::{Compare, Constraints};
+use helix_base::Memory;
 use helix_values::Kind;
+use std::alloc::Global;
+use std::process::Abort;
 use std::test::Fail;
 
 const REPEATED: [Value<'static>; 4] = [
@@ -22,103 +26,151 @@ pub const NUMBERS: [Value<'static>; 6] = [
     Value::Null,
 ];
 
-#[test]
-fn one_number(rt: HostRuntime) -> Result<(), Fail> {
-    let repeated = Step::Test(0, Check::InSet(&REPEATED));
-    let in_set = Step::Test(0, Check::InSet(&ONE_TO_THREE));
-    let one = Step::Test(0, Check::EqualTo(Value::Whole(1)));
-    let two = Step::Test(0, Check::EqualTo(Value::Whole(2)));
-    let above_one = Step::Test(0, Check::Bound(Compare::Above, Value::Whole(1)));
-    let above_two = Step::Test(0, Check::Bound(Compare::Above, Value::Whole(2)));
-    let below_three = Step::Test(0, Check::Bound(Compare::Below, Value::Whole(3)));
-    let some = Step::Test(0, Check::IsNull(false));
-    // Which of 0, 1, 2, 3, 4 and null are good.
-    let cases: [(bool, &[Step<'_>], [bool; 6]); 5] = [
-        (false, &[repeated], [false, true, true, true, false, false]),
-        (
-            true,
-            &[in_set, above_one, below_three, Step::AnyOf],
-            [false, true, true, true, false, true],
-        ),
-        (
-            true,
-            &[in_set, two, Step::Not],
-            [false, true, false, true, false, true],
-        ),
-        (
-            true,
-            &[one, some, one, Step::Not],
-            [false, false, false, false, false, false],
-        ),
-        (
-            true,
-            &[above_two, Step::Not, in_set],
-            [false, true, true, false, false, true],
-        ),
-    ];
-    for (nullable, steps, wants) in cases {
-        let fields = fields(rt.alloc(), &[("n", Kind::Integer, nullable)])?;
-        let constraints = constraints(rt.alloc(), steps)?;
-        for (value, want) in NUMBERS.iter().zip(wants.iter()) {
-            let good = is_good(rt.alloc(), &fields, &constraints, &[*value])?;
-            assert_eq!(rt; good, *want, "{steps:?} at {value:?}");
-        }
+/// Which of 0, 1, 2, 3, 4 and null these steps leave.
+fn leave(
+    rt: &impl Abort,
+    alloc: Global,
+    nullable: bool,
+    steps: &[Step<'_>],
+    wanted: [bool; 6],
+) -> Result<(), Fail> {
+    let fields = fields(alloc, &[("n", Kind::Integer, nullable)])?;
+    let constraints = constraints(alloc, steps)?;
+    for (value, want) in NUMBERS.iter().zip(wanted.iter()) {
+        let good = is_good(alloc, &fields, &constraints, &[*value])?;
+        assert_eq!(rt; good, *want, "{steps:?} at {value:?}");
     }
     Ok(())
 }
 
+fn in_set<'a>(members: &'a [Value<'a>]) -> Step<'a> {
+    Step::Test(0, Check::InSet(members))
+}
+
+fn is(number: i128) -> Step<'static> {
+    Step::Test(0, Check::EqualTo(Value::Whole(number)))
+}
+
+fn bound(compare: Compare, number: i128) -> Step<'static> {
+    Step::Test(0, Check::Bound(compare, Value::Whole(number)))
+}
+
 #[test]
-fn tenths_that_are_no_whole_numbers(rt: HostRuntime) -> Result<(), Fail> {
-    let fields = fields(rt.alloc(), &[("d", Kind::Decimal, false)])?;
+fn sets_of_one_number(rt: HostRuntime) -> Result<(), Fail> {
+    let listed = [false, true, true, true, false, false];
+    leave(&rt, rt.alloc(), false, &[in_set(&REPEATED)], listed)?;
+    let not_two = [in_set(&ONE_TO_THREE), is(2), Step::Not];
+    leave(
+        &rt,
+        rt.alloc(),
+        true,
+        &not_two,
+        [false, true, false, true, false, true],
+    )
+}
+
+#[test]
+fn bounds_of_one_number(rt: HostRuntime) -> Result<(), Fail> {
+    let either = [
+        in_set(&ONE_TO_THREE),
+        bound(Compare::Above, 1),
+        bound(Compare::Below, 3),
+        Step::AnyOf,
+    ];
+    leave(
+        &rt,
+        rt.alloc(),
+        true,
+        &either,
+        [false, true, true, true, false, true],
+    )?;
+    let not_above = [bound(Compare::Above, 2), Step::Not, in_set(&ONE_TO_THREE)];
+    leave(
+        &rt,
+        rt.alloc(),
+        true,
+        &not_above,
+        [false, true, true, false, false, true],
+    )
+}
+
+#[test]
+fn one_number_that_there_is_none_of(rt: HostRuntime) -> Result<(), Fail> {
+    let some = Step::Test(0, Check::IsNull(false));
+    leave(
+        &rt,
+        rt.alloc(),
+        true,
+        &[is(1), some, is(1), Step::Not],
+        [false; 6],
+    )
+}
+
+/// From 0 to 1.2, on tenths and not whole.
+fn tenths(alloc: Global) -> Result<Constraints, Memory> {
     let steps = [
-        Step::Test(0, Check::Bound(Compare::AtLeast, Value::Whole(0))),
+        bound(Compare::AtLeast, 0),
         Step::Test(0, Check::Bound(Compare::AtMost, Value::Hundredths(120))),
         Step::Test(0, Check::OnGrid(14)),
         Step::Test(0, Check::OnGrid(15)),
         Step::Not,
     ];
-    let constraints = constraints(rt.alloc(), &steps)?;
+    constraints(alloc, &steps)
+}
+
+#[test]
+fn tenths_that_are_no_whole_numbers(rt: HostRuntime) -> Result<(), Fail> {
+    let fields = fields(rt.alloc(), &[("d", Kind::Decimal, false)])?;
+    let constraints = tenths(rt.alloc())?;
     let wanted = [10, 20, 30, 40, 50, 60, 70, 80, 90, 110, 120];
     for step in 0..147_u8 {
         let count = i128::from(step) - 11;
-        let good = is_good(
-            rt.alloc(),
-            &fields,
-            &constraints,
-            &[Value::Hundredths(count)],
-        )?;
+        let values = [Value::Hundredths(count)];
+        let good = is_good(rt.alloc(), &fields, &constraints, &values)?;
         assert_eq!(rt; good, wanted.contains(&count), "{count} hundredths");
     }
     Ok(())
 }
 
-#[test]
-fn a_condition_on_two_truth_values(rt: HostRuntime) -> Result<(), Fail> {
+fn is_true(field: u32) -> Step<'static> {
+    Step::Test(field, Check::EqualTo(Value::Flag(true)))
+}
+
+/// Whether two truth values are good where the second follows from the first, or where that is negated.
+fn follows(alloc: Global, values: [Value<'_>; 2], negated: bool) -> Result<bool, Memory> {
     let fields = fields(
-        rt.alloc(),
+        alloc,
         &[("a", Kind::Boolean, true), ("b", Kind::Boolean, false)],
     )?;
-    let first = Step::Test(0, Check::EqualTo(Value::Flag(true)));
-    let second = Step::Test(1, Check::EqualTo(Value::Flag(true)));
-    let rule = constraints(rt.alloc(), &[first, second, Step::If])?;
-    let violated = constraints(rt.alloc(), &[first, second, Step::If, Step::Not])?;
+    let rule = [is_true(0), is_true(1), Step::If, Step::Not];
+    let constraints = constraints(alloc, if negated { &rule } else { &rule[..3] })?;
+    is_good(alloc, &fields, &constraints, &values)
+}
+
+/// Two truth values, and whether they are good with the condition, and with its negation.
+fn truth_values() -> [([Value<'static>; 2], bool, bool); 8] {
     let (no, yes) = (Value::Flag(false), Value::Flag(true));
-    // The rows with a condition, and with its negation.
-    let cases = [
-        (no, no, true, false),
-        (no, yes, true, false),
-        (yes, no, false, true),
-        (yes, yes, true, false),
-        (Value::Null, no, true, true),
-        (Value::Null, yes, true, false),
-        (yes, Value::Null, false, false),
-        (Value::Null, Value::Null, false, false),
-    ];
-    for (a, b, plus, minus) in cases {
-        let good = is_good(rt.alloc(), &fields, &rule, &[a, b])?;
-        assert_eq!(rt; good, plus, "{a:?} and {b:?}");
-        let good = is_good(rt.alloc(), &fields, &violated, &[a, b])?;
-        assert_eq!(rt; good, minus, "{a:?} and {b:?}, violated");
+    [
+        ([no, no], true, false),
+        ([no, yes], true, false),
+        ([yes, no], false, true),
+        ([yes, yes], true, false),
+        ([Value::Null, no], true, true),
+        ([Value::Null, yes], true, false),
+        ([yes, Value::Null], false, false),
+        ([Value::Null, Value::Null], false, false),
+    ]
+}
+
+#[test]
+fn a_condition_on_two_truth_values(rt: HostRuntime) -> Result<(), Fail> {
+    for (values, plus, minus) in truth_values() {
+        assert_eq!(rt; follows(rt.alloc(), values, false)?, plus, "{values:?}");
+        assert_eq!(rt;
+            follows(rt.alloc(), values, true)?,
+            minus,
+            "{values:?}, negated"
+        );
     }
     Ok(())
 }

@@ -2,80 +2,100 @@
 
 ghost use Rattle.helix_outside.specs.DiskInMemory.{state_of};
 
-use super::ending::{expect, run_on};
+use super::ending::{Left, expect, given, leaves, run_on, status_of, stored};
 use super::{flag, words};
-use crate::{Status, run, run_steady};
-use helix_outside::{
-    Calls, Disk, Failed, Files, MemoryConsole, MemoryDisk, SteadyConsole, SteadyDisk,
-};
+use crate::{Status, run_steady};
+use helix_outside::{Calls, Disk, Failed, MemoryConsole, MemoryDisk, SteadyConsole, SteadyDisk};
+use std::alloc::Global;
+use std::process::Abort;
 use std::test::Fail;
 
+/// The rows of the flag.
+fn whole() -> &'static str {
+    "\"flag\"\nfalse\ntrue\n\n"
+}
+
 #[test]
-fn ends_as_told_where_a_file_or_a_call_is_missing(rt: HostRuntime) -> Result<(), Fail> {
-    let whole = "\"flag\"\nfalse\ntrue\n\n";
-    let missing = run_on(rt.alloc(), &words(), &[], 0, 0)?;
-    expect(
+fn a_missing_profile_is_a_read_fault(rt: HostRuntime) -> Result<(), Fail> {
+    let left = (Status::ReadFault, "fault: read\n", None);
+    leaves(
         &rt,
-        &missing,
-        Status::ReadFault,
-        "fault: read\n",
-        None,
-        "a missing profile",
-    );
-    let there = run_on(
         rt.alloc(),
-        &words(),
-        &[("p.json", flag()), ("o.csv", "old")],
-        0,
-        0,
-    )?;
-    expect(
+        (&words(), &[]),
+        (0, 0),
+        left,
+        "a missing profile",
+    )
+}
+
+#[test]
+fn an_output_that_is_there_is_a_write_fault(rt: HostRuntime) -> Result<(), Fail> {
+    let files = [("p.json", flag()), ("o.csv", "old")];
+    let left = (Status::WriteFault, "fault: write\n", Some("old"));
+    leaves(
         &rt,
-        &there,
-        Status::WriteFault,
-        "fault: write\n",
-        Some("old"),
-        "an output that is there",
+        rt.alloc(),
+        (&words(), &files),
+        (0, 0),
+        left,
+        "an output",
+    )
+}
+
+/// A run of which this call of the disk fails.
+fn fails_at(rt: &impl Abort, alloc: Global, call: u64, left: Left<'_>) -> Result<(), Fail> {
+    let ending = run_on(alloc, &words(), &[("p.json", flag())], (call, 0))?;
+    expect(rt, &ending, left, "a failing call");
+    assert_eq!(rt; ending.disk.file("p.json"), Some(flag().as_bytes()));
+    let faults = (ending.disk.read_faults(), ending.disk.write_faults());
+    assert_eq!(rt;
+        faults,
+        (u64::from(call < 4), u64::from(4 <= call && call < 7)),
+        "call {call}"
     );
+    Ok(())
+}
+
+#[test]
+fn each_call_of_the_disk_fails_in_turn(rt: HostRuntime) -> Result<(), Fail> {
     let cases = [
         (1, Status::ReadFault, "fault: read\n", None),
         (2, Status::ReadFault, "fault: read\n", None),
         (3, Status::ReadFault, "fault: read\n", None),
         (4, Status::WriteFault, "fault: write\n", None),
         (5, Status::WriteFault, "fault: write\n", Some("")),
-        (6, Status::WriteFault, "fault: write\n", Some(whole)),
-        (7, Status::Done, "done: 3 rows\n", Some(whole)),
+        (6, Status::WriteFault, "fault: write\n", Some(whole())),
+        (7, Status::Done, "done: 3 rows\n", Some(whole())),
     ];
     for (call, status, text, output) in cases {
-        let ending = run_on(rt.alloc(), &words(), &[("p.json", flag())], call, 0)?;
-        expect(&rt, &ending, status, text, output, "a failing call");
-        assert_eq!(rt; ending.disk.file("p.json"), Some(flag().as_bytes()));
-        let faults = (ending.disk.read_faults(), ending.disk.write_faults());
-        assert_eq!(rt;
-            faults,
-            (u64::from(call < 4), u64::from(4 <= call && call < 7)),
-            "call {call}"
-        );
+        fails_at(&rt, rt.alloc(), call, (status, text, output))?;
     }
-    let unshown = run_on(rt.alloc(), &words(), &[("p.json", flag())], 0, 1)?;
-    expect(
-        &rt,
-        &unshown,
-        Status::WriteFault,
-        "",
-        Some(whole),
-        "a console that fails",
-    );
-    let usage = run_on(rt.alloc(), &[], &[], 0, 1)?;
-    expect(
-        &rt,
-        &usage,
-        Status::Usage,
-        "",
-        None,
-        "a console that fails on usage",
-    );
     Ok(())
+}
+
+#[test]
+fn a_console_that_fails_ends_a_finished_run(rt: HostRuntime) -> Result<(), Fail> {
+    let left = (Status::WriteFault, "", Some(whole()));
+    leaves(
+        &rt,
+        rt.alloc(),
+        (&words(), &[("p.json", flag())]),
+        (0, 1),
+        left,
+        "a run",
+    )
+}
+
+#[test]
+fn a_console_that_fails_changes_no_other_end(rt: HostRuntime) -> Result<(), Fail> {
+    leaves(
+        &rt,
+        rt.alloc(),
+        (&[], &[]),
+        (0, 1),
+        (Status::Usage, "", None),
+        "no words",
+    )
 }
 
 /// A disk in memory that gives and takes one byte at a time.
@@ -112,49 +132,32 @@ impl Disk for Pieces {
 
 #[test]
 fn reads_and_writes_in_pieces(rt: HostRuntime) -> Result<(), Fail> {
-    let mut given = Vec::new(rt.alloc());
-    for word in words() {
-        given.push(String::from_str(rt.alloc(), word)?)?;
-    }
-    let mut files = Files::new(rt.alloc());
-    files.put("p.json", flag().as_bytes())?;
+    let given = given(rt.alloc(), &words())?;
+    let files = stored(rt.alloc(), &[("p.json", flag())])?;
     let mut disk = Pieces {
         disk: MemoryDisk::open(files, Calls::new(rt.alloc())),
     };
     let mut console = MemoryConsole::open(Calls::new(rt.alloc()));
-    assert_eq!(rt;
-        run(rt.alloc(), &given, &mut disk, &mut console),
-        Status::Done
-    );
-    assert_eq!(rt;
-        disk.disk.file("o.csv"),
-        Some(b"\"flag\"\nfalse\ntrue\n\n".as_slice())
-    );
+    let status = status_of(rt.alloc(), &given, &mut disk, &mut console);
+    assert_eq!(rt; status, Status::Done);
+    assert_eq!(rt; disk.disk.file("o.csv"), Some(whole().as_bytes()));
     // Each byte of both files is a call; the rest are the two begins, the read at the end and the finish.
     assert_eq!(rt; disk.disk.calls(), 62 + 19 + 4);
     Ok(())
 }
 
+/// How a run over a steady environment ends, and how many bytes it wrote.
+fn steady_end(alloc: Global, profile: &str) -> Result<(Status, u64), Fail> {
+    let given = given(alloc, &words())?;
+    let mut disk = SteadyDisk::open(stored(alloc, &[("p.json", profile), ("o.csv", "")])?);
+    let mut console = SteadyConsole::open();
+    let status = run_steady(alloc, &given, &mut disk, &mut console);
+    Ok((status, disk.written()))
+}
+
 #[test]
 fn never_fails_on_a_steady_environment(rt: HostRuntime) -> Result<(), Fail> {
-    for (profile, status, written) in [
-        (flag(), Status::Done, 19),
-        ("{}", Status::ProfileRefused, 0),
-    ] {
-        let mut given = Vec::new(rt.alloc());
-        for word in words() {
-            given.push(String::from_str(rt.alloc(), word)?)?;
-        }
-        let mut files = Files::new(rt.alloc());
-        files.put("p.json", profile.as_bytes())?;
-        files.put("o.csv", b"")?;
-        let mut disk = SteadyDisk::open(files);
-        let mut console = SteadyConsole::open();
-        assert_eq!(rt;
-            run_steady(rt.alloc(), &given, &mut disk, &mut console),
-            status
-        );
-        assert_eq!(rt; disk.written(), written);
-    }
+    assert_eq!(rt; steady_end(rt.alloc(), flag())?, (Status::Done, 19));
+    assert_eq!(rt; steady_end(rt.alloc(), "{}")?, (Status::ProfileRefused, 0));
     Ok(())
 }
