@@ -1,4 +1,4 @@
-ghost use Rattle.std.specs.Prelude.{◌≤◌};
+ghost use Rattle.std.specs.Prelude.{IsSome};
 
 use crate::{
     Calls, Console, Disk, Failed, Files, MemoryConsole, MemoryDisk, SteadyConsole, SteadyDisk,
@@ -27,16 +27,21 @@ fn text_of(bytes: Option<&[u8]>) -> Option<&str> {
     bytes.and_then(|bytes| str::from_utf8(bytes).ok())
 }
 
-#[test]
-fn files_hold_what_was_put_last(rt: HostRuntime) -> Result<(), Fail> {
-    let mut files = Files::new(rt.alloc());
+/// Files of which some were put twice, and some had bytes appended.
+fn put_and_appended(alloc: Global) -> Result<Files, Fail> {
+    let mut files = Files::new(alloc);
     for (name, bytes) in [("a", "1"), ("é", "2"), ("", "3"), ("a", "45"), ("ab", "")] {
         files.put(name, bytes.as_bytes())?;
     }
-    files.append("ab".as_bytes(), b"67")?;
-    files.append("ab".as_bytes(), b"8")?;
-    files.append("c".as_bytes(), b"")?;
-    files.append("d".as_bytes(), b"9")?;
+    for (name, bytes) in [("ab", "67"), ("ab", "8"), ("c", ""), ("d", "9")] {
+        files.append(name.as_bytes(), bytes.as_bytes())?;
+    }
+    Ok(files)
+}
+
+#[test]
+fn files_hold_what_was_put_last(rt: HostRuntime) -> Result<(), Fail> {
+    let files = put_and_appended(rt.alloc())?;
     let cases = [
         ("a", Some("45")),
         ("é", Some("2")),
@@ -68,6 +73,13 @@ fn a_failure_has_a_text(rt: HostRuntime) -> Result<(), Fail> {
     Ok(())
 }
 
+/// The two files on a disk of which these calls fail.
+fn disk_of(alloc: Global, failing: &[u64]) -> Result<MemoryDisk, Fail> {
+    let files = two_files(alloc)?;
+    let calls = listed(alloc, failing)?;
+    Ok(MemoryDisk::open(files, calls))
+}
+
 /// Copies two bytes of `in` to `out`, in five calls.
 fn copies_two_bytes<D: Disk>(disk: &mut D) -> Result<(), Failed> {
     disk.begin_read("in")?;
@@ -78,65 +90,89 @@ fn copies_two_bytes<D: Disk>(disk: &mut D) -> Result<(), Failed> {
     disk.finish()
 }
 
-#[test]
-fn each_listed_call_fails(rt: HostRuntime) -> Result<(), Fail> {
-    // the call that fails, whether all went well, `out`, the calls, the faults of reading and of writing
-    let cases = [
-        (0, true, Some("ab"), 5, 0, 0),
-        (1, false, None, 1, 1, 0),
-        (2, false, None, 2, 1, 0),
-        (3, false, None, 3, 0, 1),
-        (4, false, Some(""), 4, 0, 1),
-        (5, false, Some("ab"), 5, 0, 1),
-        (6, true, Some("ab"), 5, 0, 0),
-    ];
-    for (due, ok, out, calls, read_faults, write_faults) in cases {
-        let alloc = rt.alloc();
-        let mut disk = MemoryDisk::open(two_files(alloc)?, listed(alloc, &[9, due])?);
-        assert_eq!(rt; copies_two_bytes(&mut disk).is_ok(), ok, "{due}");
-        assert_eq!(rt; text_of(disk.file("out")), out, "{due}");
-        assert_eq!(rt; text_of(disk.file("in")), Some("abcde"), "{due}");
-        assert_eq!(rt; disk.calls(), calls, "{due}");
-        assert_eq!(rt; disk.read_faults(), read_faults, "{due}");
-        assert_eq!(rt; disk.write_faults(), write_faults, "{due}");
-    }
+/// How many calls a disk counted, and how many faults of reading and of writing.
+fn counts(disk: &MemoryDisk) -> (u64, u64, u64) {
+    (disk.calls(), disk.read_faults(), disk.write_faults())
+}
+
+/// Copies two bytes while this call fails: whether all goes well, what `out` is, and the counts.
+fn copies_while_failing(
+    rt: &impl Abort,
+    alloc: Global,
+    due: u64,
+    (ok, out): (bool, Option<&str>),
+    wanted: (u64, u64, u64),
+) -> Result<(), Fail> {
+    let mut disk = disk_of(alloc, &[9, due])?;
+    let copied = copies_two_bytes(&mut disk).is_ok();
+    assert_eq!(rt; copied, ok, "{due}");
+    assert_eq!(rt; text_of(disk.file("out")), out, "{due}");
+    assert_eq!(rt; text_of(disk.file("in")), Some("abcde"), "{due}");
+    assert_eq!(rt; counts(&disk), wanted, "{due}");
     Ok(())
 }
 
 #[test]
+fn each_listed_call_fails(rt: HostRuntime) -> Result<(), Fail> {
+    let cases = [
+        (0, true, Some("ab"), (5, 0, 0)),
+        (1, false, None, (1, 1, 0)),
+        (2, false, None, (2, 1, 0)),
+        (3, false, None, (3, 0, 1)),
+        (4, false, Some(""), (4, 0, 1)),
+        (5, false, Some("ab"), (5, 0, 1)),
+        (6, true, Some("ab"), (5, 0, 0)),
+    ];
+    for (due, ok, out, wanted) in cases {
+        copies_while_failing(&rt, rt.alloc(), due, (ok, out), wanted)?;
+    }
+    Ok(())
+}
+
+/// No missing file is read, and none that is there is begun.
+fn begins_nothing(rt: &impl Abort, disk: &mut MemoryDisk) {
+    for name in ["", "e\u{301}", "./in", "IN"] {
+        assert!(rt; disk.begin_read(name).is_err(), "{name}");
+    }
+    for name in ["in", "é"] {
+        assert!(rt; disk.begin_write(name, false).is_err(), "{name}");
+    }
+}
+
+#[test]
 fn what_is_told_is_no_fault(rt: HostRuntime) -> Result<(), Fail> {
-    // names that are missing and names that are taken, also in calls that are to fail
+    // Also in calls that are to fail.
     for due in [0, 1, 2, 3, 4, 5, 6] {
-        let alloc = rt.alloc();
-        let mut disk = MemoryDisk::open(two_files(alloc)?, listed(alloc, &[due])?);
-        for name in ["", "e\u{301}", "./in", "IN"] {
-            assert!(rt; disk.begin_read(name).is_err(), "{name}");
-        }
-        for name in ["in", "é"] {
-            assert!(rt; disk.begin_write(name, false).is_err(), "{name}");
-        }
-        assert_eq!(rt; disk.calls(), 6);
-        assert_eq!(rt; (disk.read_faults(), disk.write_faults()), (0, 0), "{due}");
+        let mut disk = disk_of(rt.alloc(), &[due])?;
+        begins_nothing(&rt, &mut disk);
+        assert_eq!(rt; counts(&disk), (6, 0, 0), "{due}");
         assert_eq!(rt; text_of(disk.file("in")), Some("abcde"));
     }
     Ok(())
 }
 
-/// Reads `name` through a buffer of `room` bytes.
+/// The next bytes, through a buffer.
+fn next_piece<'a, D: Disk>(disk: &mut D, buffer: &'a mut [u8]) -> Result<&'a [u8], Failed>
+    requires { IsSome (D.state disk.old).input }
+    ensures { IsSome (D.state disk.new).input }
+{
+    let count = disk.read(buffer)?;
+    Ok(&buffer[..count])
+}
+
+/// Reads `name` through a buffer of up to eight bytes.
 fn pieces(
     rt: &impl Abort,
-    disk: &mut MemoryDisk,
-    name: &str,
-    room: usize,
+    alloc: Global,
+    (name, room): (&str, usize),
     want: &[&[u8]],
-) -> Result<(), Fail>
-    requires { room ≤ 8 }
-{
+) -> Result<(), Fail> {
+    let mut disk = disk_of(alloc, &[])?;
     disk.begin_read(name)?;
     for piece in want {
         let mut buffer = [7; 8];
-        let count = disk.read(&mut buffer[..room])?;
-        assert_eq!(rt; &buffer[..count], *piece, "{name} by {room}");
+        let found = next_piece(&mut disk, &mut buffer[..room.min(8)])?;
+        assert_eq!(rt; found, *piece, "{name} by {room}");
     }
     Ok(())
 }
@@ -144,20 +180,17 @@ fn pieces(
 #[test]
 fn a_file_is_read_in_pieces(rt: HostRuntime) -> Result<(), Fail> {
     let alloc = rt.alloc();
-    let mut disk = MemoryDisk::open(two_files(alloc)?, Calls::new(alloc));
-    pieces(&rt, &mut disk, "in", 8, &[b"abcde", b"", b""])?;
-    pieces(&rt, &mut disk, "in", 5, &[b"abcde", b"", b""])?;
-    pieces(&rt, &mut disk, "in", 2, &[b"ab", b"cd", b"e", b"", b""])?;
-    pieces(
-        &rt,
-        &mut disk,
-        "in",
-        1,
-        &[b"a", b"b", b"c", b"d", b"e", b""],
-    )?;
-    pieces(&rt, &mut disk, "in", 0, &[b"", b""])?;
-    pieces(&rt, &mut disk, "é", 3, &[b"", b""])?;
-    Ok(())
+    pieces(&rt, alloc, ("in", 8), &[b"abcde", b"", b""])?;
+    pieces(&rt, alloc, ("in", 5), &[b"abcde", b"", b""])?;
+    pieces(&rt, alloc, ("in", 2), &[b"ab", b"cd", b"e", b"", b""])
+}
+
+#[test]
+fn a_file_is_read_by_single_bytes_and_by_none(rt: HostRuntime) -> Result<(), Fail> {
+    let alloc = rt.alloc();
+    pieces(&rt, alloc, ("in", 1), &[b"a", b"b", b"c", b"d", b"e", b""])?;
+    pieces(&rt, alloc, ("in", 0), &[b"", b""])?;
+    pieces(&rt, alloc, ("é", 3), &[b"", b""])
 }
 
 /// Reads `in` after its bytes were replaced, and adds to them before the first read.
@@ -171,8 +204,7 @@ fn reads_while_it_writes(disk: &mut MemoryDisk, buffer: &mut [u8]) -> Result<usi
 
 #[test]
 fn an_input_stays_as_it_was_opened(rt: HostRuntime) -> Result<(), Fail> {
-    let alloc = rt.alloc();
-    let mut disk = MemoryDisk::open(two_files(alloc)?, Calls::new(alloc));
+    let mut disk = disk_of(rt.alloc(), &[])?;
     let mut buffer = [0; 4];
     assert_eq!(rt; reads_while_it_writes(&mut disk, &mut buffer)?, 3);
     assert_eq!(rt; buffer, [120, 121, 122, 0]);
@@ -180,28 +212,44 @@ fn an_input_stays_as_it_was_opened(rt: HostRuntime) -> Result<(), Fail> {
     Ok(())
 }
 
+/// Writes three lines, and tells whether one failed.
+fn writes_three_lines(console: &mut MemoryConsole) -> bool {
+    let mut failed = false;
+    for line in ["a", "", "é"] {
+        failed = console.line(line.as_bytes()).is_err() || failed;
+    }
+    failed
+}
+
 #[test]
 fn a_listed_line_adds_nothing(rt: HostRuntime) -> Result<(), Fail> {
-    for (due, text, faults) in [
-        (0, "a\n\né\n", 0),
-        (1, "\né\n", 1),
-        (2, "a\né\n", 1),
-        (3, "a\n\n", 1),
-        (4, "a\n\né\n", 0),
+    for (due, text, fails) in [
+        (0, "a\n\né\n", false),
+        (1, "\né\n", true),
+        (2, "a\né\n", true),
+        (3, "a\n\n", true),
+        (4, "a\n\né\n", false),
     ] {
         let mut console = MemoryConsole::open(listed(rt.alloc(), &[due])?);
-        let mut failed = 0;
-        for line in ["a", "", "é"] {
-            failed = if console.line(line.as_bytes()).is_err() {
-                1
-            } else {
-                failed
-            };
-        }
+        let failed = writes_three_lines(&mut console);
         assert_eq!(rt; text_of(Some(console.text())), Some(text), "{due}");
-        assert_eq!(rt; (failed, console.faults()), (faults, faults), "{due}");
+        assert_eq!(rt;
+            (failed, console.faults()),
+            (fails, u64::from(fails)),
+            "{due}"
+        );
     }
     Ok(())
+}
+
+/// A file of a steady disk, up to eight bytes.
+fn read_whole<'a>(
+    disk: &mut SteadyDisk,
+    name: &str,
+    buffer: &'a mut [u8],
+) -> Result<&'a [u8], Failed> {
+    disk.begin_read(name)?;
+    next_piece(disk, buffer)
 }
 
 #[test]
@@ -210,11 +258,15 @@ fn a_steady_disk_reads_and_counts(rt: HostRuntime) -> Result<(), Fail> {
     copies_two_bytes(&mut disk)?;
     assert_eq!(rt; disk.written(), 2);
     for (name, want) in [("in", "abcde"), ("é", ""), ("out", ""), ("gone", "")] {
-        disk.begin_read(name)?;
         let mut buffer = [0; 8];
-        let count = disk.read(&mut buffer)?;
-        assert_eq!(rt; text_of(Some(&buffer[..count])), Some(want), "{name}");
+        let found = read_whole(&mut disk, name, &mut buffer)?;
+        assert_eq!(rt; text_of(Some(found)), Some(want), "{name}");
     }
+    Ok(())
+}
+
+#[test]
+fn a_steady_console_takes_lines(_rt: HostRuntime) -> Result<(), Fail> {
     SteadyConsole::open().line(b"a")?;
     Ok(())
 }

@@ -5,9 +5,9 @@ use Rattle.helix_regex.specs.declared.token.Token.{Token}
 use Rattle.helix_regex.specs.declared.token.Token.TheVariants as token
 use Rattle.helix_regex.specs.Inner.Rules.{level, deepest}
 
-pub deepest_least : (d : ℕ) (ts : List Token) → d ≤ deepest d ts
-deepest_least d [] = omega arith
-deepest_least d (t ∷ ts) = omega arith
+pub least : (d : ℕ) (ts : List Token) → d ≤ deepest d ts
+least d [] = omega arith
+least d (t ∷ ts) = omega arith
 
 pub level_most : (d : ℕ) (t : Token) → level d t ≤ d + 1
 level_most d token.Open = omega arith
@@ -15,9 +15,9 @@ level_most d token.Close = omega arith
 level_most d _ = omega arith
 
 -- one more token
-pub deepest_more : (d m x : ℕ) (t : Token) (ts : List Token) → d ≤ m → max m (deepest d (t ∷ ts)) ≡ x
+pub more : (d m x : ℕ) (t : Token) (ts : List Token) → d ≤ m → max m (deepest d (t ∷ ts)) ≡ x
     → max (max m (level d t)) (deepest (level d t) ts) ≡ x
-deepest_more d m x t ts h e = let k : level d t ≤ deepest (level d t) ts = deepest_least (level d t) ts in omega arith
+more d m x t ts h e = let k : level d t ≤ deepest (level d t) ts = least (level d t) ts in omega arith
 
 pub drop_at : (ts : List Token) (i : ℕ) (t : Token) → i < length ts → t ≡ get_or ts i t
     → drop i ts ≡ t ∷ drop (i + 1) ts
@@ -33,7 +33,7 @@ pub step : (ts : List Token) (i d m n k x : ℕ) (t : Token) → i < length ts �
 step ts i d m n k x t lt e h f g j =
     let cut : drop i ts ≡ t ∷ drop (i + 1) ts = drop_at ts i t lt e in
     let all : max (max m (level d t)) (deepest (level d t) (drop (i + 1) ts))
-    ≡ x = deepest_more d m x t (drop (i + 1) ts) h (ap (λ l. max m (deepest d l)) (sym cut) ∙ f) in
+    ≡ x = more d m x t (drop (i + 1) ts) h (ap (λ l. max m (deepest d l)) (sym cut) ∙ f) in
     let a : max k (deepest n (drop (i + 1) ts)) ≡ x = ap (λ y. max y (deepest n (drop (i + 1) ts))) j
     ∙ (ap (λ y. max (max m y) (deepest y (drop (i + 1) ts))) g ∙ all) in
     let b : level d t ≤ d + 1 = level_most d t in

@@ -6,12 +6,12 @@ use Rattle.helix_regex.specs.Pattern.{star, plus, question, exactly, at_least, b
 use Rattle.helix_regex.specs.Faults.{piece_text, group_text, depth}
 use Rattle.helix_regex.specs.Inner.Tokens.{single_tokens, quant_tokens, tokens}
 use Rattle.helix_regex.specs.Inner.Rules.{deepest}
-use Rattle.helix_regex.proofs.Deep.{deepest_least}
+use Rattle.helix_regex.proofs.Deep.{least}
 use Rattle.helix_regex.proofs.Quiet.{inner_single, deepest_quiet}
 
 -- groups
 kept : (d : ℕ) (r : List Token) → max d (deepest d r) ≡ deepest d r
-kept d r = let h : d ≤ deepest d r = deepest_least d r in omega arith
+kept d r = let h : d ≤ deepest d r = least d r in omega arith
 
 deepest_quant : (d : ℕ) (q : Quant) (at : ℕ) (r : List Token) → deepest d (quant_tokens at q ++ r) ≡ deepest d r
 deepest_quant d once at r = refl
@@ -31,7 +31,7 @@ group_depth d i p r b c a e f g = omega arith
 
 pub depth_rule : (p : Pattern) (at d : ℕ) (r : List Token)
     → deepest d (tokens at p ++ r) ≡ max (d + depth p) (deepest d r)
-depth_rule end at d r = let h : d ≤ deepest d r = deepest_least d r in omega arith
+depth_rule end at d r = let h : d ≤ deepest d r = least d r in omega arith
 depth_rule (bar p) at d r = kept d (tokens (at + 1) p ++ r) ∙ depth_rule p (at + 1) d r
 depth_rule (caret p) at d r = kept d (tokens (at + 1) p ++ r) ∙ depth_rule p (at + 1) d r
 depth_rule (dollar p) at d r = kept d (tokens (at + 1) p ++ r) ∙ depth_rule p (at + 1) d r

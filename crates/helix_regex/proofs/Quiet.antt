@@ -7,7 +7,7 @@ use Rattle.helix_regex.specs.Pattern.{Item, single, range, set_item, dash, Singl
 use Rattle.helix_regex.specs.Inner.Tokens.{item_tokens, single_tokens}
 use Rattle.helix_regex.specs.Faults.{lesser}
 use Rattle.helix_regex.specs.Inner.Rules.{or_else, first_some, least_some, level, bar_at, outer_bar, deepest, miscounted_at, stray_at, is_caret, is_dollar}
-use Rattle.helix_regex.proofs.Deep.{deepest_least}
+use Rattle.helix_regex.proofs.Deep.{least}
 
 abbrev pub IsInner : Token → Type 0
 IsInner (token.Bar at) = ⊥
@@ -84,7 +84,7 @@ outer_quiet d (t ∷ ts) r h = ap (λ x. or_else x (outer_bar (level d t) (ts ++
     ∙ (ap (λ x. outer_bar x (ts ++ r)) (quiet_level d t h.0) ∙ outer_quiet d ts r h.1)
 
 reached : (d : ℕ) (r : List Token) → max d (deepest d r) ≡ deepest d r
-reached d r = let h : d ≤ deepest d r = deepest_least d r in omega arith
+reached d r = let h : d ≤ deepest d r = least d r in omega arith
 
 pub deepest_quiet : (d : ℕ) (ts r : List Token) → AreInner ts → deepest d (ts ++ r) ≡ deepest d r
 deepest_quiet d [] r h = refl

@@ -161,7 +161,7 @@ pub fn outer_bar(tokens: &[Token]) -> Option<usize>
 }
 
 /// The nesting of groups.
-#[tactic(auto, using(crate::proofs::Deep::deepest_least, crate::proofs::Deep::level_most, crate::proofs::Deep::deepest_more,))]
+#[tactic(auto, using(crate::proofs::Deep::least, crate::proofs::Deep::level_most, crate::proofs::Deep::more,))]
 pub fn deepest(tokens: &[Token]) -> usize
     ensures { result ≡ deepest 0 tokens.now }
 {
