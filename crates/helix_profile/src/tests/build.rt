@@ -18,7 +18,7 @@ pub const SECOND_OF_JANUARY: i64 = 738_886;
 pub const FIRST_OF_MARCH: i64 = 738_945;
 
 /// The value of a cell.
-#[derive(Clone, Copy, Debug)]
+#[derive(Clone, Copy)]
 pub enum Value<'a> {
     Null,
     Flag(bool),
@@ -29,7 +29,7 @@ pub enum Value<'a> {
 }
 
 /// A test of one field.
-#[derive(Clone, Copy, Debug)]
+#[derive(Clone, Copy)]
 pub enum Check<'a> {
     IsNull(bool),
     EqualTo(Value<'a>),
@@ -46,7 +46,7 @@ pub enum Check<'a> {
 }
 
 /// A step that makes a constraint, of those that the steps before it made.
-#[derive(Clone, Copy, Debug)]
+#[derive(Clone, Copy)]
 pub enum Step<'a> {
     Test(u32, Check<'a>),
     Related(u32, Compare, u32, i128),

@@ -35,7 +35,12 @@ fn a_made_profile_tells_good_rows(rt: HostRuntime) -> Result<(), Fail> {
     ];
     for (values, want) in cases {
         let row = row(rt.alloc(), values)?;
-        assert_eq!(rt; is_good(&profile, row.as_slice()), want, "{values:?}");
+        assert_eq!(rt;
+            is_good(&profile, row.as_slice()),
+            want,
+            "{} cells",
+            values.len()
+        );
     }
     Ok(())
 }

@@ -28,7 +28,7 @@ fn leave(
     for (x, wants) in NUMBERS.iter().zip(wanted.iter()) {
         for (y, want) in NUMBERS.iter().zip(wants.iter()) {
             let good = is_good(alloc, &fields, &constraints, &[*x, *y])?;
-            assert_eq!(rt; good, *want, "{x:?} and {y:?}");
+            assert_eq!(rt; good, *want, "{wants:?}");
         }
     }
     Ok(())
@@ -122,7 +122,11 @@ fn to_and_fro(alloc: Global, on_months: bool) -> Result<Constraints, Memory> {
     let march = Step::Test(2, Check::EqualTo(Value::Day(FIRST_OF_MARCH)));
     let months = Step::Test(1, Check::OnGrid(5));
     let steps = [forth, back, march, months];
-    constraints(alloc, if on_months { &steps } else { &steps[..3] })
+    if on_months {
+        constraints(alloc, &steps)
+    } else {
+        constraints(alloc, &steps[..3])
+    }
 }
 
 /// Whether three days, counted from 2024-03-01, are good.

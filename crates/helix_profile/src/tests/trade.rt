@@ -1,5 +1,4 @@
 use crate::tests::build::{Check, DAY, SECOND_OF_JANUARY, Step, Value, fields, is_good};
-use crate::tests::patterns::Piece;
 use crate::tests::steps::constraints;
 use crate::{Compare, Constraints, Fields};
 use helix_base::{Alphabet, Memory};
@@ -63,15 +62,6 @@ fn on_numbers(alloc: Global) -> Result<Constraints, Memory> {
     constraints(alloc, &all)
 }
 
-/// Two capital letters, nine capital letters or digits, and a digit.
-fn security() -> [Piece<'static>; 3] {
-    [
-        (&[('A', 'Z')], 2, Some(2)),
-        (&[('A', 'Z'), ('0', '9')], 9, Some(9)),
-        (&[('0', '9')], 1, Some(1)),
-    ]
-}
-
 fn is_currency(currency: &str) -> Step<'_> {
     Step::Test(3, Check::EqualTo(Value::Text(currency)))
 }
@@ -80,10 +70,15 @@ fn is_of(country: &str) -> Step<'_> {
     Step::Test(6, Check::BeginningWith(country))
 }
 
-/// A security, of the country of its currency.
+/// Two capital letters, nine capital letters or digits, and a digit: a security, of the country of its currency.
 fn on_securities(alloc: Global) -> Result<Constraints, Memory> {
+    let security = [
+        (&[('A', 'Z')][..], 2, Some(2)),
+        (&[('A', 'Z'), ('0', '9')][..], 9, Some(9)),
+        (&[('0', '9')][..], 1, Some(1)),
+    ];
     let all = [
-        Step::Test(6, Check::Matching("", &security())),
+        Step::Test(6, Check::Matching("", &security)),
         is_currency("USD"),
         is_of("US"),
         Step::If,
@@ -159,8 +154,9 @@ fn good_trades(rt: HostRuntime) -> Result<(), Fail> {
     let fields = fields_of(rt.alloc())?;
     let constraints = all_constraints(rt.alloc())?;
     for (trade, want) in trades() {
+        let (settled, currency, ..) = trade;
         let good = is_good(rt.alloc(), &fields, &constraints, &values(trade))?;
-        assert_eq!(rt; good, want, "{trade:?}");
+        assert_eq!(rt; good, want, "settled after {settled}, {currency}");
     }
     Ok(())
 }

@@ -38,7 +38,7 @@ fn leave(
     let constraints = constraints(alloc, steps)?;
     for (value, want) in NUMBERS.iter().zip(wanted.iter()) {
         let good = is_good(alloc, &fields, &constraints, &[*value])?;
-        assert_eq!(rt; good, *want, "{steps:?} at {value:?}");
+        assert_eq!(rt; good, *want, "{wanted:?}");
     }
     Ok(())
 }
@@ -143,7 +143,11 @@ fn follows(alloc: Global, values: [Value<'_>; 2], negated: bool) -> Result<bool,
         &[("a", Kind::Boolean, true), ("b", Kind::Boolean, false)],
     )?;
     let rule = [is_true(0), is_true(1), Step::If, Step::Not];
-    let constraints = constraints(alloc, if negated { &rule } else { &rule[..3] })?;
+    let constraints = if negated {
+        constraints(alloc, &rule)?
+    } else {
+        constraints(alloc, &rule[..3])?
+    };
     is_good(alloc, &fields, &constraints, &values)
 }
 
@@ -165,11 +169,15 @@ fn truth_values() -> [([Value<'static>; 2], bool, bool); 8] {
 #[test]
 fn a_condition_on_two_truth_values(rt: HostRuntime) -> Result<(), Fail> {
     for (values, plus, minus) in truth_values() {
-        assert_eq!(rt; follows(rt.alloc(), values, false)?, plus, "{values:?}");
+        assert_eq!(rt;
+            follows(rt.alloc(), values, false)?,
+            plus,
+            "{plus} and {minus}"
+        );
         assert_eq!(rt;
             follows(rt.alloc(), values, true)?,
             minus,
-            "{values:?}, negated"
+            "{plus} and {minus}, negated"
         );
     }
     Ok(())
