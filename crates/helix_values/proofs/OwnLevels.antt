@@ -1,5 +1,5 @@
 -- The values of a kind are those of the widest kind of its class that are on its own level.
-use Rattle.std.proofs.Common.{◌≡◌, ◌↔◌, ℕ, Option, Some, subst}
+use Rattle.std.proofs.Common.{◌≡◌, ◌↔◌, ℕ, Some, subst}
 use Rattle.helix_values.specs.declared.kind.Kind.{Kind}
 use Rattle.helix_values.specs.declared.kind.Kind.TheVariants as kind
 use Rattle.helix_values.specs.declared.cell.Cell.{Cell}

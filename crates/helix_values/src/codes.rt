@@ -1,6 +1,6 @@
-//! The check rules of ISIN, SEDOL and CUSIP.
+//! The check rules of ISIN, SEDOL and CUSIP, and what one character adds to their sums.
 
-ghost use Rattle.std.specs.Prelude.{◌≡◌, ◌↔◌, ◌^◌, ◌<◌, ◌≤◌, IsTrue, false, reverse, map, length};
+ghost use Rattle.std.specs.Prelude.{◌≡◌, ◌↔◌, ◌^◌, ◌<◌, ◌≤◌, IsTrue, false, reverse, map, length, get_or};
 ghost use Rattle.std.specs.Prelude.{if◌then◌else◌, ◌*◌};
 ghost use Rattle.std.specs.List.{flat_map, list_all};
 ghost use Rattle.helix_base.specs.Digits.{is_digit as digit};
@@ -113,8 +113,9 @@ fn isin_sum(word: &[u32]) -> u64
     sum
 }
 
-/// The digits of a character, counted from the last, the first or the second one doubled, added.
-fn character_sum(c: u32, twice: bool) -> u64
+/// What the digits of a character of an ISIN add to the sum: counted from the last, the first or the second one is
+/// doubled.
+pub fn character_sum(c: u32, twice: bool) -> u64
     ensures sum { result ≡ doubled_sum twice (reverse (digits_of c)) }
     ensures small { result < 2 ^ 36 }
 {
@@ -132,9 +133,18 @@ fn sedol_sum(word: &[u32]) -> u64
 {
     let mut sum = 0;
     for (i, c) in word.iter().enumerate() {
-        sum += SEDOL_WEIGHTS[i] * value_of(*c);
+        sum += weighted(i, *c);
     }
     sum
+}
+
+/// What a character of a SEDOL adds to the sum: the weight at an index times the character's value.
+pub fn weighted(index: usize, c: u32) -> u64
+    requires { index < 7 }
+    ensures product { result ≡ get_or sedol_weights index 0 * value c }
+    ensures small { result ≤ 2 ^ 36 }
+{
+    SEDOL_WEIGHTS[index] * value_of(c)
 }
 
 /// The values of all characters, each second one doubled, as the sum of their digits.
@@ -151,8 +161,8 @@ fn cusip_sum(word: &[u32]) -> u64
     sum
 }
 
-/// A number, doubled or not, as the sum of its two digits.
-fn doubled(n: u64, twice: bool) -> u64
+/// The digits of a number, doubled or not, added: what a character of a CUSIP with this value adds to the sum.
+pub fn doubled(n: u64, twice: bool) -> u64
     requires { n < 2 ^ 32 }
     ensures sum { result ≡ digit_sum (if twice then 2 * n else n) }
     ensures small { result < 2 ^ 34 }
@@ -161,7 +171,8 @@ fn doubled(n: u64, twice: bool) -> u64
     n / 10 + n % 10
 }
 
-fn value_of(c: u32) -> u64
+/// The value of a character: a digit's own, 10 to 35 for the letters, 36 to 38 for the signs of a CUSIP.
+pub fn value_of(c: u32) -> u64
     ensures value { result ≡ value c }
     ensures small { result < 2 ^ 32 }
 {
@@ -178,13 +189,15 @@ fn value_of(c: u32) -> u64
     }
 }
 
-fn is_capital(c: u32) -> bool
+/// Whether a character is one from `A` to `Z`.
+pub fn is_capital(c: u32) -> bool
     ensures { result ≡ capital c }
 {
     ('A' as u32..='Z' as u32).contains(&c)
 }
 
-fn is_sedol_character(c: u32) -> bool
+/// Whether a character is a digit or a letter that is no vowel.
+pub fn is_sedol_character(c: u32) -> bool
     ensures { result ≡ sedol_character c }
 {
     (is_capital(c) || is_digit(c)) && !is_vowel(c)
@@ -196,7 +209,8 @@ fn is_vowel(c: u32) -> bool
     c == 'A' as u32 || c == 'E' as u32 || c == 'I' as u32 || c == 'O' as u32 || c == 'U' as u32
 }
 
-fn is_cusip_character(c: u32) -> bool
+/// Whether a character is a digit, a letter, `*`, `@` or `#`.
+pub fn is_cusip_character(c: u32) -> bool
     ensures { result ≡ cusip_character c }
 {
     is_capital(c) || is_digit(c) || c == '*' as u32 || c == '@' as u32 || c == '#' as u32

@@ -11,7 +11,8 @@
 //! A number is kept in whole units of 10^-15, a moment in milliseconds from
 //! 0001-01-01T00:00:00.000, a text as its code points.
 //!
-//! - [`in_universe`] tells the values of a [`Kind`], [`valid`] the words of a [`Code`].
+//! - [`in_universe`] tells the values of a [`Kind`], [`valid`] the words of a [`Code`]; `codes` has what
+//!   one character of a code's word is and adds.
 //! - [`cmp_cell`] and [`cmp_row`] are total orders; a [`Mark`] is a bound from below in that order.
 //! - A [`Slot`] holds a cell without memory, a [`RowBuf`] a row of slots. [`RowBuf::slot_mut`] borrows
 //!   one slot, and the other cells stay.
@@ -26,7 +27,7 @@
 
 mod cell;
 mod cells;
-mod codes;
+pub mod codes;
 mod held;
 mod kind;
 pub mod laws;

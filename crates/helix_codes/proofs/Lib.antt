@@ -1,0 +1,9 @@
+pub mod CusipSteps
+pub mod DigitLast
+pub mod DoubledSums
+pub mod FewArcs
+pub mod IsinSteps
+pub mod OneCharacter
+pub mod Parity
+pub mod Reading
+pub mod SedolSteps

@@ -1,0 +1,4 @@
+pub mod Completed
+pub mod Ends
+pub mod Positions
+pub mod PrefixLaws
