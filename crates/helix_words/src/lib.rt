@@ -39,3 +39,6 @@ mod words;
 
 pub use trail::Trail;
 pub use words::Words;
+
+#[cfg(test)]
+mod tests;
