@@ -1,0 +1,2 @@
+pub mod SignedTrees
+pub mod Negations
