@@ -1,0 +1,11 @@
+pub mod Table
+pub mod Rows
+pub mod Columns
+pub mod Rests
+pub mod Blocks
+pub mod Lengths
+pub mod Tables
+pub mod Reaching
+pub mod Paths
+pub mod Walks
+pub mod Fills
