@@ -39,6 +39,7 @@ mod test;
 pub use constraint::{Constraint, Constraints, Parts};
 pub use field::{Field, Fields};
 pub use good::{is_good, is_good_for};
+pub use holds::holds as test_holds;
 pub use profile::{NoSuchConstraint, Profile};
 pub use relation::{Compare, Relation};
 pub use rows::RowSet;
