@@ -1,0 +1,13 @@
+pub mod Orders
+pub mod Walks
+pub mod OnLines
+pub mod GridTests
+pub mod OfKinds
+pub mod Listing
+pub mod OnGrids
+pub mod Spellings
+pub mod ArcCounts
+pub mod LengthLaws
+pub mod Automata
+pub mod TextWords
+pub mod Counting
