@@ -1,0 +1,6 @@
+pub mod Numbers
+pub mod NamedFields
+pub mod Labelling
+pub mod Reading
+pub mod GroupsMade
+pub mod Examples
