@@ -1,9 +1,9 @@
 -- The moves of a question to texts.
-use Rattle.std.proofs.Common.{◌≡◌, ℕ, ◌+◌, ◌*◌, sym, subst, arith}
+use Rattle.std.proofs.Common.{◌≡◌, ◌+◌, ◌*◌, sym, subst, arith}
 use Rattle.helix_automata.specs.Automaton.{most_arcs}
 use Rattle.helix_base.specs.Steps.{Tally}
 use Rattle.helix_base.specs.declared.steps.Unit.{Unit as Step}
-use Rattle.helix_values.specs.Class.{Class, strings}
+use Rattle.helix_values.specs.Class.{Class}
 use Rattle.helix_values.specs.Counts.{characters}
 use Rattle.helix_words.specs.Moves.{MovedAtMost}
 use Rattle.helix_words.specs.MovesLaws.{moved_wider}

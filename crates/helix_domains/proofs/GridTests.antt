@@ -1,10 +1,9 @@
 -- The tests of a grid that signed atoms come to.
-use Rattle.std.proofs.Common.{◌≡◌, ◌≢◌, ◌↔◌, ℕ, ◌+◌, ◌<◌, ◌≤◌, ℤ, Bool, true, false, Result, Ok, Err, List, [], ◌∷◌, ◌++◌, length, get_or, take, refl, sym, ap, ◌∙◌, subst, arith}
+use Rattle.std.proofs.Common.{◌≡◌, ◌↔◌, ℕ, ◌+◌, ◌<◌, ◌≤◌, ℤ, Bool, true, false, Result, Ok, Err, List, [], ◌∷◌, ◌++◌, length, get_or, take, refl, sym, subst, arith}
 use Rattle.std.proofs.lemmas.Int.{ints}
 use Rattle.std.specs.List.{All, Contains}
 use Rattle.std.specs.Result.{IfOk}
 use Rattle.std.proofs.lemmas.List.{take_all}
-use Rattle.std.proofs.lemmas.List.Elements.{Contains-push_cases, Contains-push}
 use Rattle.helix_base.specs.declared.memory.Memory.{Memory}
 use Rattle.helix_grids.specs.Tests.{Passes}
 use Rattle.helix_grids.specs.declared.test.GridTest.{GridTest}
@@ -13,8 +12,8 @@ use Rattle.helix_profile.specs.Satisfaction.{Signed}
 use Rattle.helix_profile.specs.declared.relation.Compare.{Compare}
 use Rattle.helix_profile.specs.declared.relation.Compare.TheVariants as compare
 use Rattle.helix_domains.proofs.Walks.{all_push, all_more}
-use Rattle.helix_values.specs.Class.{Class, class_of_kind}
-use Rattle.helix_values.specs.Universe.{InUniverse, IsDecimal}
+use Rattle.helix_values.specs.Class.{class_of_kind}
+use Rattle.helix_values.specs.Universe.{IsDecimal}
 use Rattle.helix_values.specs.declared.cell.Cell.{Cell}
 use Rattle.helix_values.specs.declared.cell.Cell.TheVariants as cell
 use Rattle.helix_values.specs.declared.kind.Kind.{Kind}

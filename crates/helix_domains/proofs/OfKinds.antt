@@ -6,7 +6,7 @@ use Rattle.helix_grids.specs.declared.test.GridTest.{GridTest}
 use Rattle.helix_values.proofs.ClassLaws.{class_of_value}
 use Rattle.helix_values.proofs.OwnLevels.{on_own_level}
 use Rattle.helix_values.specs.Class.{Class, class_of, class_of_kind}
-use Rattle.helix_values.specs.Counts.{widest_kind}
+use Rattle.helix_values.specs.Counts.{widest_kind, IsMarkBound}
 use Rattle.helix_values.specs.OnGrid.{IsOnGrid}
 use Rattle.helix_values.specs.OwnLevel.{own_level}
 use Rattle.helix_values.specs.Slot.{FitsSlot}
@@ -99,3 +99,15 @@ module _ (line : Line) (k : Kind) (level : ℕ) (class : class_of_kind k ≡ cla
           on_line : (units : ℤ) → IsMember (ladder_on line) level tests units
               → IsOnLine line (IsMember (ladder_on line) level tests) (cell_on line units)
           on_line units is = to_line line (IsMember (ladder_on line) level tests) units is
+
+-- a value of a kind can be the bound of a mark
+pub in_class : (k : Kind) (v : Cell) → InUniverse k v → IsMarkBound (class_of_kind k) v
+in_class kind.Boolean (cell.Bool truth) within = refl
+in_class kind.Integer (cell.Number units) within = refl
+in_class kind.Decimal (cell.Number units) within = refl
+in_class (kind.Text alphabet) (cell.Text codes) within =
+    (refl, (in_widest (kind.Text alphabet) (cell.Text codes) within).1)
+in_class kind.Date (cell.Moment at) within = refl
+in_class kind.DateTime (cell.Moment at) within = refl
+in_class (kind.Code code) (cell.Text codes) within = (refl, (in_widest (kind.Code code) (cell.Text codes) within).1)
+in_class other value within = absurd within

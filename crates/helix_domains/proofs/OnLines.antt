@@ -1,5 +1,5 @@
 -- The least numbers and moments that a mark admits.
-use Rattle.std.proofs.Common.{◌≡◌, ◌≢◌, ◌↔◌, ℕ, ◌+◌, ◌<◌, ◌≤◌, List, [], ◌∷◌, ◌++◌, length, get_or, take, inl, inr, ⊎_elim, ℤ, pos, ◌+ℤ◌, ◌≤ℤ◌, ◌<ℤ◌, Option, None, Some, true, refl, sym, ap, ◌∙◌, subst, arith, Ordering}
+use Rattle.std.proofs.Common.{◌≡◌, ◌≢◌, ◌↔◌, ℕ, ◌+◌, ◌<◌, ◌≤◌, List, [], ◌∷◌, ◌++◌, length, get_or, take, inl, inr, ⊎_elim, ℤ, pos, ◌+ℤ◌, ◌≤ℤ◌, ◌<ℤ◌, Option, None, Some, refl, sym, ap, ◌∙◌, subst, arith, Ordering}
 use Rattle.std.specs.declared.cmp.Ordering.TheVariants.{Less, Equal, Greater}
 use Rattle.std.specs.Ordering.{int_cmp}
 use Rattle.std.specs.Cmp.{int_cmp_is}
@@ -13,7 +13,6 @@ use Rattle.helix_domains.proofs.Walks.{contains_more}
 use Rattle.helix_grids.specs.Tests.{IsLeastOf, IsMember}
 use Rattle.helix_grids.specs.declared.test.GridTest.{GridTest}
 use Rattle.helix_ladders.specs.Scale.{IsLeast}
-use Rattle.helix_values.specs.Class.{Class, numbers, moments, IsNullOr}
 use Rattle.helix_values.specs.Counts.{IsMarkBound, IsMarkOf}
 use Rattle.helix_values.specs.Marks.{IsAdmitted}
 use Rattle.helix_values.specs.Order.{CellLess}

@@ -1,5 +1,5 @@
 -- Cells in ascending order, and those that a mark admits.
-use Rattle.std.proofs.Common.{◌≡◌, ◌↔◌, ℕ, ◌+◌, ◌≤◌, ◌<◌, Bool, false, true, List, length, get_or, refl, sym, ap, ◌∙◌, subst, ⊎_elim, arith, Ordering}
+use Rattle.std.proofs.Common.{◌≡◌, ◌↔◌, ℕ, ◌+◌, ◌≤◌, ◌<◌, false, true, List, length, get_or, refl, sym, ap, ◌∙◌, subst, ⊎_elim, arith, Ordering}
 use Rattle.std.specs.declared.cmp.Ordering.TheVariants.{Less, Equal, Greater}
 use Rattle.std.specs.List.{Contains, AllWithin}
 use Rattle.std.specs.Ordering.{is_lt, is_eq, ordering_reverse}

@@ -1,5 +1,5 @@
 -- The texts of a kind that pass signed atoms, as words of an automaton with lengths.
-use Rattle.std.proofs.Common.{◌≡◌, ◌↔◌, ℕ, ◌-◌, ◌≤◌, ◌<◌, Bool, true, false, List, [], Some, length, get_or, refl, sym, ap, ◌∙◌, subst, arith}
+use Rattle.std.proofs.Common.{◌≡◌, ◌↔◌, ℕ, ◌-◌, ◌≤◌, ◌<◌, Bool, List, [], Some, length, get_or, refl, sym, ap, ◌∙◌, subst, arith}
 use Rattle.std.specs.List.{All, Contains}
 use Rattle.helix_automata.specs.Automaton.{Automaton, Accepts, most_arcs}
 use Rattle.helix_automata.specs.Shape.{IsCharacter}
@@ -23,7 +23,7 @@ use Rattle.helix_profile.specs.Validity.{IsTestFor, IsBound, IsLevel}
 use Rattle.helix_profile.specs.declared.test.Test.{Test}
 use Rattle.helix_profile.specs.declared.test.Test.TheVariants as test
 use Rattle.helix_words.specs.Words.{WordSet, IsWord, IsWordCell}
-use Rattle.helix_domains.specs.Domain.{IsAllowed, IsAtomFor, IsTestOfValue, PassesAtom}
+use Rattle.helix_domains.specs.Domain.{IsAllowed, IsAtomFor, IsTestOfValue}
 use Rattle.helix_domains.specs.declared.atom.SignedAtom.{SignedAtom}
 use Rattle.helix_domains.specs.declared.lengths.Lengths.{Lengths}
 use Rattle.helix_domains.specs.Inner.Texts.{IsLengthOf, IsLengthFor, PassesLength, IsWordFor, PassesWord, IsWordOfKind, AllAccept, HasShortTexts}

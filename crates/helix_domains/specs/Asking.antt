@@ -3,7 +3,7 @@ use Rattle.std.specs.Prelude.{◌≡◌, ℕ, ◌+◌, ◌*◌}
 use Rattle.helix_base.specs.Steps.{Tally, ticked}
 use Rattle.helix_base.specs.declared.steps.Unit.{Unit as Step}
 use Rattle.helix_base.specs.declared.steps.Unit.TheVariants.{Domain}
-use Rattle.helix_values.specs.Class.{Class, booleans, numbers, strings, moments}
+use Rattle.helix_values.specs.Class.{Class, strings}
 use Rattle.helix_values.specs.Counts.{characters}
 use Rattle.helix_words.specs.Moves.{MovedAtMost}
 

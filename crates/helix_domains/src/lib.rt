@@ -43,3 +43,6 @@ mod values;
 pub use atom::SignedAtom;
 pub use domain::Domain;
 pub use fitting::is_atom_for;
+
+#[cfg(test)]
+mod tests;

@@ -1,5 +1,5 @@
 -- Numbers and moments as whole numbers on a line.
-use Rattle.std.specs.Prelude.{ℕ, ℤ, ◌≤ℤ◌, ◌↔◌}
+use Rattle.std.specs.Prelude.{ℤ, ◌≤ℤ◌, ◌↔◌}
 use Rattle.helix_ladders.specs.Scale.{Ladder}
 use Rattle.helix_ladders.specs.Ladders.{numbers_ladder, moments_ladder}
 use Rattle.helix_values.specs.Class.{Class, numbers, moments}

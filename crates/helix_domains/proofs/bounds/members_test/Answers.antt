@@ -1,4 +1,3 @@
-use Rattle.std.proofs.Common.{sym, subst}
 use Rattle.helix_domains.proofs.GridTests.{members_pass, others_pass}
 use Rattle.helix_domains.proofs.bounds.members_test.Goals as goal
 

@@ -1,8 +1,7 @@
-use Rattle.std.proofs.Common.{◌↔◌, take, sym, subst}
+use Rattle.std.proofs.Common.{sym, subst}
 use Rattle.std.specs.List.{All}
-use Rattle.std.proofs.lemmas.List.{take_all}
 use Rattle.std.proofs.lemmas.List.Elements.{All-push}
-use Rattle.helix_grids.specs.Tests.{Passes, NamesLevelBelow}
+use Rattle.helix_grids.specs.Tests.{NamesLevelBelow}
 use Rattle.helix_domains.specs.Inner.Line.{ladder_on}
 use Rattle.helix_domains.proofs.GridTests.{tests_more, tests_all}
 use Rattle.helix_domains.proofs.grids.grid_tests.Goals as goal

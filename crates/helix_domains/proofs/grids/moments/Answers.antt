@@ -1,4 +1,3 @@
-use Rattle.helix_domains.specs.declared.line.Line.TheVariants.{Moments}
 use Rattle.helix_domains.proofs.OnGrids.{moments_exact}
 use Rattle.helix_domains.proofs.grids.moments.Goals as goal
 

@@ -1,4 +1,3 @@
-use Rattle.helix_domains.specs.declared.line.Line.TheVariants.{Numbers}
 use Rattle.helix_domains.proofs.OnGrids.{numbers_exact}
 use Rattle.helix_domains.proofs.grids.numbers.Goals as goal
 

@@ -1,7 +1,6 @@
-use Rattle.std.proofs.Common.{◌↔◌, ℤ, ◌+◌, ◌++◌, ◌∷◌, [], take, rules, sym, ap, ◌∙◌, subst, FitsSigned, to_z-of_z}
+use Rattle.std.proofs.Common.{◌↔◌, ℤ, ◌+◌, take, rules, sym, ◌∙◌, subst, FitsSigned, to_z-of_z}
 use Rattle.std.specs.Int.{w128}
 use Rattle.std.specs.List.{Contains}
-use Rattle.std.proofs.lemmas.List.{take_all}
 use Rattle.helix_domains.specs.Inner.Line.{cell_on}
 use Rattle.helix_domains.proofs.OnLines.{units_in, units_out, units_all}
 use Rattle.helix_domains.proofs.line.units_of.Goals as goal

@@ -1,4 +1,4 @@
-use Rattle.std.proofs.Common.{arith, subst, ◌∙◌, sym, ap}
+use Rattle.std.proofs.Common.{arith, subst, ◌∙◌, sym}
 use Rattle.std.proofs.lemmas.Bool.{iff_false}
 use Rattle.helix_values.specs.Marks.{IsAdmitted}
 use Rattle.helix_domains.proofs.Orders.{all_from, none_to}

@@ -1,6 +1,5 @@
 use Rattle.std.proofs.Common.{true, ◌≡◌, ◌↔◌, subst, sym, ap, ◌∙◌}
 use Rattle.std.specs.List.{Contains}
-use Rattle.std.specs.Ordering.{is_eq}
 use Rattle.helix_values.specs.Order.{cell_cmp}
 use Rattle.helix_values.specs.View.{cell_of}
 use Rattle.std.proofs.lemmas.Bool.{false≢true}

@@ -1,4 +1,4 @@
-use Rattle.std.proofs.Common.{◌+◌, ◌++◌, ◌∷◌, [], take, sym, ap, ◌∙◌, subst}
+use Rattle.std.proofs.Common.{◌+◌, take, sym, ap, ◌∙◌, subst}
 use Rattle.std.proofs.lemmas.Bool.{iff_false}
 use Rattle.helix_domains.specs.Inner.Spelling.{AreFollowing}
 use Rattle.helix_domains.proofs.Spellings.{follow_in_read, follow_out_read, follow_all}

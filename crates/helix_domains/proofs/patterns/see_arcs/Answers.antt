@@ -1,6 +1,5 @@
-use Rattle.std.proofs.Common.{arith, ap, ◌∙◌, subst, sym, get_or, length, ◌≤◌, [], inl, inr, ⊎_elim}
-use Rattle.helix_values.specs.Counts.{characters}
-use Rattle.helix_domains.proofs.ArcCounts.{few_arcs, few_in, few_more}
+use Rattle.std.proofs.Common.{arith}
+use Rattle.helix_domains.proofs.ArcCounts.{few_in, few_more}
 use Rattle.helix_domains.proofs.patterns.see_arcs.Goals as goal
 
 pub loop-state-preserved : goal.loop-state-preserved

@@ -1,4 +1,3 @@
-use Rattle.std.specs.List.{All}
 use Rattle.helix_values.specs.Class.{class_of_kind}
 use Rattle.helix_domains.proofs.Counting.{few_moves}
 use Rattle.helix_domains.proofs.question.least_value.Goals as goal

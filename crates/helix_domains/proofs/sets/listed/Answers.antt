@@ -1,6 +1,3 @@
-use Rattle.std.proofs.Common.{sym, subst}
-use Rattle.std.specs.List.{All, Contains}
-use Rattle.helix_values.specs.Slot.{FitsSlot}
 use Rattle.helix_domains.proofs.Listing.{listed_values}
 use Rattle.helix_domains.proofs.sets.listed.Goals as goal
 

@@ -1,0 +1,7 @@
+//! Domains by tables.
+
+mod ask;
+mod build;
+mod lines;
+mod marks;
+mod words;
