@@ -1,0 +1,12 @@
+pub mod Putting
+pub mod Owing
+pub mod Characters
+pub mod Joining
+pub mod CellEnds
+pub mod RowCells
+pub mod Members
+pub mod Stops
+pub mod ToldStrings
+pub mod SmallTexts
+pub mod ToldCells
+pub mod ToldRows
