@@ -37,7 +37,8 @@ ends-push at (first ∷ second ∷ parts) part =
     ap (λ es. (at + length first) ∷ es)
     (ends-push later (second ∷ parts) part ∙ ap (λ n. ends_from later (second ∷ parts) ++ n ∷ []) last)
 
-module _ (parts : List (List ℕ)) (i : ℕ) (part : List ℕ) (within : i < length parts) (is : part ≡ get_or parts i []) where
+module _ (parts : List (List ℕ)) (i : ℕ) (part : List ℕ) (within : i < length parts)
+    (is : part ≡ get_or parts i []) where
   more_parts : take (i + 1) parts ≡ take i parts ++ part ∷ []
   more_parts = take_more parts i [] within ∙ ap (λ p. take i parts ++ p ∷ []) (sym is)
 

@@ -29,7 +29,8 @@ pub record OwesRest (old : DiskState) (before after : List ℕ) (new : DiskState
   pub rest : out ++ after ≡ before
   pub files : IsTrue old.told → new.files ≡ written old out
 
--- bytes are added to those that a block owes: none is lost, and where the call fails the block stays and a prefix is out
+-- bytes are added to those that a block owes: none is lost, and where the call fails the block stays and a prefix
+-- is out
 pub record AddsBytes {T E : Type 0} (old : DiskState) (owed bytes : List ℕ) (result : Result T E)
     (still_owed : List ℕ) (new : DiskState) : Type 0 where
   pub only : WritesOnly old result new

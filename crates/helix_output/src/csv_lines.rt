@@ -29,8 +29,8 @@ pub fn csv_row(line: &mut LineBuf, row: &RowBuf)
     csv_next(line, row, 0);
 }
 
-/// Makes the line that of a row, where it is the line of a row that agrees with this one on the first cells, `unchanged`
-/// of them. What they have in common is not written again. It takes no memory.
+/// Makes the line that of a row, where it is the line of a row that agrees with this one on the first
+/// cells, `unchanged` of them. What they have in common is not written again. It takes no memory.
 pub fn csv_next(line: &mut LineBuf, row: &RowBuf, unchanged: usize)
     requires fits { FitsFields line.old.fields row.now }
     requires within { unchanged ≤ length row.now }

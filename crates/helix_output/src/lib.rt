@@ -11,15 +11,16 @@
 //! ```
 //!
 //! What is proved:
-//! - [`csv_head`], [`csv_row`], [`csv_next`], [`json_open`], [`json_row`] and [`json_close`] leave exactly the line that
-//!   the definitions give (`specs/Csv.antt`, `specs/JsonLines.antt`), for every row that fits the fields
+//! - [`csv_head`], [`csv_row`], [`csv_next`], [`json_open`], [`json_row`] and [`json_close`] leave exactly the line
+//!   that the definitions give (`specs/Csv.antt`, `specs/JsonLines.antt`), for every row that fits the fields
 //!   (`specs/Fitting.antt`). Of these only [`json_row`] takes memory.
 //! - [`put_all`] appends all bytes, or a prefix of them where the count of write faults rose. A [`Block`] loses no byte
 //!   and repeats none: what is out and what is owed are together what was added (`specs/Writing.antt`).
 //! - Two different lists of rows have different texts, in each format: [`laws`].
 //!
 //! JSON strings are those of the ported `serde_json`; CSV is that of RFC 4180. A CSV line keeps where its cells end, so
-//! that a row that differs from the one before in its last cells costs these cells alone. No clause says what a call costs.
+//! that a row that differs from the one before in its last cells costs these cells alone. No clause says what a call
+//! costs.
 #![tactic(auto)]
 
 mod block;

@@ -39,7 +39,8 @@ replaces_next from to old mid i v within replaces is = record {
   same_length = length-set mid i v ∙ replaces.same_length;
   done = λ k below. ⊎_elim
       (λ here. ap (λ j. get_or (set mid i v) j 0) here ∙ (get_or-set_same mid i v 0 within
-      ∙ (is ∙ ap (λ l. if l == from then to else l) (replaces.left i (omega arith) ∙ ap (λ j. get_or old j 0) (sym here)))))
+      ∙ (is ∙ ap (λ l. if l == from then to else l) (replaces.left i (omega arith)
+          ∙ ap (λ j. get_or old j 0) (sym here)))))
       (λ other. get_or-set_other mid i k v 0 other ∙ replaces.done k (omega (arith, other)))
       (cases_eq k i);
   left = λ k above. get_or-set_other mid i k v 0 (λ e. omega (arith, above, e)) ∙ replaces.left k (omega arith);
@@ -52,7 +53,8 @@ replaces_none from to labels = record {
   left = λ k above. refl;
 }
 
-pub replaces_all : (from to : ℕ) (old new : List ℕ) (count : ℕ) → length new ≤ count → ReplacesUpTo from to old new count
+pub replaces_all : (from to : ℕ) (old new : List ℕ) (count : ℕ) → length new ≤ count
+    → ReplacesUpTo from to old new count
     → new ≡ with_label old from to
 replaces_all from to old new count all replaces = same_number_lists new (with_label old from to)
     (replaces.same_length ∙ sym (length-map old (λ l. if l == from then to else l)))
@@ -167,7 +169,8 @@ joins_none labels fields = record {
 pub names_at : (fields : List ℕ) (i : ℕ) → i < length fields
     → list_any (λ named. named == get_or fields i 0) fields ≡ true
 names_at [] i within = absurd (omega (arith, within))
-names_at (field ∷ fields) zero within = or_left (field == field) (list_any (λ n. n == field) fields) (eq-eqb field field refl)
+names_at (field ∷ fields) zero within = or_left (field == field) (list_any (λ n. n == field) fields)
+    (eq-eqb field field refl)
 names_at (field ∷ fields) (suc i) within = or_right (field == get_or fields i 0)
     (list_any (λ n. n == get_or fields i 0) fields) (names_at fields i (omega (arith, within)))
 
@@ -183,7 +186,8 @@ joins_next old mid fields i within there joins =
           (λ earlier.
           let inside : get_or fields j 0 < length mid =
           omega (arith, there j 0 (omega arith), joins.same_length) in
-          kept_here mid (get_or fields 0 0) (get_or fields i 0) first here (get_or fields j 0) (get_or fields 0 0) inside
+          kept_here mid (get_or fields 0 0) (get_or fields i 0) first here (get_or fields j 0) (get_or fields 0 0)
+              inside
           first (joins.joined j earlier))
           (λ reached.
           let last : j ≡ i = omega arith in

@@ -67,7 +67,8 @@ right_there fields right left P fits =
 
 module _ (fields : List Field) where
   mutual
-    pub fields_there : (c : Constraint) → IsConstraintFor fields c → AllByRecursion (λ f. f < length fields) (fields_of c)
+    pub fields_there : (c : Constraint) → IsConstraintFor fields c → AllByRecursion (λ f. f < length fields)
+        (fields_of c)
     fields_there (Atom atom) fits = (fits.0, tt)
     fields_there (Related relation) fits =
         (fits.0, (right_there fields relation.right relation.left (λ l r. IsRelationFor l r relation) fits, tt))
@@ -142,7 +143,8 @@ pub appends_if_else : (old one two three : List ℕ) (c condition then other fir
     (otherwise : Option Constraint) → c ≡ If condition then otherwise → otherwise ≡ Some other → first ≡ condition
     → second ≡ then → third ≡ other → one ≡ old ++ fields_of first → two ≡ one ++ fields_of second
     → three ≡ two ++ fields_of third → three ≡ old ++ fields_of c
-appends_if_else old one two three c condition then other first second third otherwise is some first_is second_is third_is
+appends_if_else old one two three c condition then other first second third otherwise is some first_is second_is
+    third_is
     one_is two_is three_is =
     let law = fields-If condition then (Some other) in
     let outer = append_assoc old (fields_of condition) (fields_of then ++ fields_of other) in

@@ -10,7 +10,8 @@ use Rattle.helix_profile.specs.Fields.{fields_of}
 use Rattle.helix_profile.specs.Width.{is_linked}
 use Rattle.helix_profile.specs.Validity.{IsConstraintFor, IsValidProfile}
 use Rattle.helix_profile.specs.declared.constraint.Constraint.{Constraint}
-use Rattle.helix_partition.specs.LinkLaws.{Names, IsIn, Chain, linked_self}
+use Rattle.helix_partition.specs.ChainLaws.{Names, IsIn, Chain}
+use Rattle.helix_partition.specs.LinkLaws.{linked_self}
 use Rattle.helix_partition.specs.Inner.Labels.{first_fields, JoinsUpTo, LabelledBy}
 use Rattle.helix_partition.proofs.NamedFields.{fields_there, some_named}
 
@@ -97,7 +98,8 @@ own_labelled profile labels n are count = record {
   where
     label : (a : ℕ) → a < length labels → get_or labels a 0 ≡ a
     label a within = ap (λ l. get_or l a 0) are
-        ∙ (get_or-range_with_len 0 n a 0 (omega (arith, within, ap length are, length-range_with_len 0 n)) ∙ omega arith)
+        ∙ (get_or-range_with_len 0 n a 0 (omega (arith, within, ap length are, length-range_with_len 0 n))
+            ∙ omega arith)
 
 -- one constraint more
 pub next_labelled : (profile : Content) (old new : List ℕ) (i : ℕ) (c d : Constraint) → IsValidProfile profile
@@ -165,7 +167,8 @@ module _ (profile : Content) (valid : IsValidProfile profile) (slice : List Cons
     arith,
     ap length same,
     labelled.every_field,
-    all_indexed (λ f. f < length profile.fields) (fields_of item) (fields_there profile.fields item fits_item) k d inside,
+    all_indexed (λ f. f < length profile.fields) (fields_of item) (fields_there profile.fields item fits_item) k d
+        inside,
   )
 
   pub item_read : (old borrowed new : List ℕ) (len : ℕ) (firsts more : List ℕ) (first : ℕ) → borrowed ≡ old

@@ -73,7 +73,8 @@ fn constraints_with(
     requires small { length firsts.now < 2 ^ 32 }
     requires firsts { All (λ first. first < length labels.now) firsts.now }
     ensures { IfOk result (λ constraints. constraints
-        ≡ numbers_below (λ number. slice_index labels.now (slice_index firsts.now number) == label) (length firsts.now)) }
+        ≡ numbers_below (λ number. slice_index labels.now (slice_index firsts.now number) == label)
+            (length firsts.now)) }
 {
     let mut constraints = Numbers32::new(alloc);
     for (number, first) in firsts.iter().enumerate() {

@@ -45,6 +45,3 @@ pub use relation::{Compare, Relation};
 pub use rows::RowSet;
 pub use satisfaction::{all_satisfied, satisfies};
 pub use test::{Atom, Test};
-
-#[cfg(test)]
-mod tests;

@@ -46,7 +46,8 @@ Below P limit = (n : ℕ) × (n < limit) × P n
 
 module _ (P : ℕ → Type 0) where
   last_or_below : (limit : ℕ) → Below P (suc limit) → P limit ⊎ Below P limit
-  last_or_below limit (n, below, p) = ⊎_elim (λ b. inr (n, b, p)) (λ reached. inl (subst P (n_is n limit below reached) p))
+  last_or_below limit (n, below, p) = ⊎_elim (λ b. inr (n, b, p))
+      (λ reached. inl (subst P (n_is n limit below reached) p))
       (cases_lt n limit)
     where
       n_is : (n limit : ℕ) → n < suc limit → limit ≤ n → n ≡ limit

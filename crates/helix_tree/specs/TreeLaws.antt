@@ -72,7 +72,8 @@ mutual
       let then = join_mean consequent row true (all_mean consequent row true) in
       let both = All-parts (joined_tree (signed_trees condition true) ∷ joined_tree (signed_trees consequent true) ∷ [])
       row in
-      after (Any-parts (All (joined_tree (signed_trees condition true) ∷ joined_tree (signed_trees consequent true) ∷ [])
+      after (Any-parts (All (joined_tree (signed_trees condition true) ∷ joined_tree (signed_trees consequent true) ∷
+          [])
       ∷ joined_tree (signed_trees condition false) ∷ []) row) (
         ⊎_elim (λ h. let parts = both.0 h in inl (met.0 parts.0, then.0 parts.1.0))
             (⊎_elim (λ h. inr (unmet.0 h, tt)) (λ none. absurd none)),
@@ -81,7 +82,8 @@ mutual
   tree_means (If' pointer condition other_pointer consequent None') row false =
       let met = join_mean condition row true (all_mean condition row true) in
       let then = join_mean consequent row false (all_mean consequent row false) in
-      after (All-parts (joined_tree (signed_trees condition true) ∷ joined_tree (signed_trees consequent false) ∷ []) row)
+      after (All-parts (joined_tree (signed_trees condition true) ∷ joined_tree (signed_trees consequent false) ∷ [])
+          row)
       ((λ h. inl (met.0 h.0, then.0 h.1.0)), ⊎_elim (λ h. (met.1 h.0, (then.1 h.1, tt))) (λ none. absurd none.1))
   tree_means (If' pointer condition other_pointer consequent (Some' else_pointer other)) row sign =
       let met = join_mean condition row true (all_mean condition row true) in
@@ -90,8 +92,10 @@ mutual
       let otherwise = join_mean other row sign (all_mean other row sign) in
       let both = All-parts (joined_tree (signed_trees condition true) ∷ joined_tree (signed_trees consequent sign) ∷ [])
       row in
-      let rest = All-parts (joined_tree (signed_trees condition false) ∷ joined_tree (signed_trees other sign) ∷ []) row in
-      after (Any-parts (All (joined_tree (signed_trees condition true) ∷ joined_tree (signed_trees consequent sign) ∷ [])
+      let rest = All-parts (joined_tree (signed_trees condition false) ∷ joined_tree (signed_trees other sign) ∷ [])
+          row in
+      after (Any-parts (All (joined_tree (signed_trees condition true) ∷ joined_tree (signed_trees consequent sign) ∷
+          [])
       ∷ All (joined_tree (signed_trees condition false) ∷ joined_tree (signed_trees other sign) ∷ []) ∷ []) row) (
         ⊎_elim (λ h. let parts = both.0 h in inl (met.0 parts.0, then.0 parts.1.0))
             (⊎_elim (λ h. let parts = rest.0 h in inr (unmet.0 parts.0, otherwise.0 parts.1.0)) (λ none. absurd none)),

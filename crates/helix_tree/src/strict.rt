@@ -12,7 +12,8 @@ use std::alloc::Global;
 /// The tree that holds exactly for the rows for which this one doesn't, also at nulls.
 pub fn strict_not(alloc: Global, tree: &Tree) -> Result<Tree, Memory>
     ensures negation { IfOk result (λ negation. negation ≡ strict_negation tree.now) }
-    ensures complement { IfOk result (λ negation. (row : List Cell) → TreeHolds negation row ↔ ¬ TreeHolds tree.now row) }
+    ensures complement { IfOk result (λ negation. (row : List Cell) → TreeHolds negation row
+        ↔ ¬ TreeHolds tree.now row) }
 {
     negated(alloc, tree)
 }

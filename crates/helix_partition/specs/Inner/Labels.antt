@@ -6,7 +6,7 @@ use Rattle.helix_profile.specs.Fields.{fields_of}
 use Rattle.helix_profile.specs.Width.{is_linked}
 use Rattle.helix_profile.specs.declared.constraint.Constraint.{Constraint}
 use Rattle.helix_partition.specs.Groups.{numbers_below}
-use Rattle.helix_partition.specs.LinkLaws.{IsIn, Names}
+use Rattle.helix_partition.specs.ChainLaws.{IsIn, Names}
 use Rattle.helix_partition.specs.declared.partition.Partition.{Partition}
 
 -- the fields that constraints name

@@ -21,7 +21,8 @@ push_named-returns-in-AnyOf t c = on_ok _ _ c.push_all_named-in-AnyOf.result
     c.push_all_named-in-AnyOf.ensures
 
 pub push_named-returns-in-None : goal.push_named-returns-in-None
-push_named-returns-in-None t c = appends_if c.args.fields.now c.push_named-in-If.new.fields c.push_named-in-If-2.new.fields
+push_named-returns-in-None t c = appends_if c.args.fields.now c.push_named-in-If.new.fields
+    c.push_named-in-If-2.new.fields
     c.args.constraint.now c.in-If.condition c.in-If.then c.get-in-If.result.now c.get-in-If-2.result.now
     c.in-If.otherwise c.in-If.is c.in-None.is c.get-in-If.ensures c.get-in-If-2.ensures
     c.in_ok-push_named-in-If.ensures c.in_ok-push_named-in-If-2.ensures

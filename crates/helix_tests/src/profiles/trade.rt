@@ -1,7 +1,7 @@
-use crate::tests::build::{Check, DAY, SECOND_OF_JANUARY, Step, Value, fields, is_good};
-use crate::tests::steps::constraints;
-use crate::{Compare, Constraints, Fields};
+use crate::profiles::build::{Check, DAY, SECOND_OF_JANUARY, Step, Value, fields, is_good};
+use crate::profiles::steps::constraints;
 use helix_base::{Alphabet, Memory};
+use helix_profile::{Compare, Constraints, Fields};
 use helix_values::Kind;
 use std::alloc::Global;
 use std::test::Fail;

@@ -1,8 +1,8 @@
-use crate::tests::build::{Check, DAY, FIRST_OF_MARCH, Step, Value, fields, is_good};
-use crate::tests::steps::constraints;
-use crate::tests::worked_rows::{NUMBERS, ONE_TO_THREE};
-use crate::{Compare, Constraints};
+use crate::profiles::build::{Check, DAY, FIRST_OF_MARCH, Step, Value, fields, is_good};
+use crate::profiles::steps::constraints;
+use crate::profiles::worked_rows::{NUMBERS, ONE_TO_THREE};
 use helix_base::{Alphabet, Memory};
+use helix_profile::{Compare, Constraints};
 use helix_values::Kind;
 use std::alloc::Global;
 use std::process::Abort;

@@ -1,8 +1,8 @@
 ghost use Rattle.std.specs.Prelude.{◌≡◌, ◌<◌, [], ◌∷◌, length, true, false, IfOk};
 
-use crate::tests::build::{Value, row};
-use crate::{Atom, Constraint, Constraints, Field, Fields, Profile, Test, is_good};
+use crate::profiles::build::{Value, row};
 use helix_base::{Memory, Text};
+use helix_profile::{Atom, Constraint, Constraints, Field, Fields, Profile, Test, is_good};
 use helix_values::Kind;
 use std::alloc::Global;
 use std::test::Fail;

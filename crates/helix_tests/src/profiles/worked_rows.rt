@@ -1,7 +1,7 @@
-use crate::tests::build::{Check, Step, Value, fields, is_good};
-use crate::tests::steps::constraints;
-use crate::{Compare, Constraints};
+use crate::profiles::build::{Check, Step, Value, fields, is_good};
+use crate::profiles::steps::constraints;
 use helix_base::Memory;
+use helix_profile::{Compare, Constraints};
 use helix_values::Kind;
 use std::alloc::Global;
 use std::process::Abort;

@@ -7,12 +7,12 @@ mod steps;
 mod trade;
 mod worked_rows;
 
-use crate::laws::{
+use build::{Check, Step, Value, fields};
+use helix_profile::laws::{
     a_prefix_goes_on, answers_of_any_set, each_form, one_answer_list, one_rest,
     the_answer_is_a_rest, the_rest_is_a_prefix, violating_replaces,
 };
-use crate::{Compare, Constraint, Profile};
-use build::{Check, Step, Value, fields};
+use helix_profile::{Compare, Constraint, Profile};
 use helix_values::Kind;
 use std::test::Fail;
 use steps::constraints;

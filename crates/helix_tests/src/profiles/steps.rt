@@ -1,9 +1,9 @@
 //! What the tests make of their steps.
 
-use crate::tests::build::{Check, Step, test};
-use crate::{Atom, Compare, Constraint, Constraints, Parts, Relation};
+use crate::profiles::build::{Check, Step, test};
 use helix_base::Memory;
 use helix_ladders::Offset;
+use helix_profile::{Atom, Compare, Constraint, Constraints, Parts, Relation};
 use sqlite_items::Boxed;
 use std::alloc::Global;
 

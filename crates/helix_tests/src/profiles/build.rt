@@ -1,8 +1,10 @@
 //! What the tests build their rows and constraints from: data, as a table can hold it.
 
-use crate::tests::patterns::{Piece, regex};
-use crate::{Compare, Constraint, Constraints, Field, Fields, Test, is_good_for, satisfies};
+use crate::profiles::patterns::{Piece, regex};
 use helix_base::{Memory, Text};
+use helix_profile::{
+    Compare, Constraint, Constraints, Field, Fields, Test, is_good_for, satisfies,
+};
 use helix_values::{Cell, Cells, Kind, Row};
 use std::alloc::Global;
 

@@ -1,7 +1,7 @@
-use crate::Compare;
-use crate::tests::build::{Check, FIRST_OF_MARCH, Step, Value, signs};
-use crate::tests::steps::constraint;
+use crate::profiles::build::{Check, FIRST_OF_MARCH, Step, Value, signs};
+use crate::profiles::steps::constraint;
 use helix_base::Memory;
+use helix_profile::Compare;
 use std::alloc::Global;
 use std::process::Abort;
 use std::test::Fail;
