@@ -50,7 +50,7 @@ doubled_character c apart =
 pub doubled_quote : (c : ℕ) → c ≡ 34 → flat_map doubled (encode_utf8 c) ≡ 34 ∷ 34 ∷ []
 doubled_quote c is =
     short_character doubled (λ b high. doubled_plain b (λ e. omega arith)) c (34 ∷ 34 ∷ []) (omega arith)
-        (ap doubled is)
+    (ap doubled is)
 
 -- any character from the space on, but a quote and a backslash, stays
 pub escaped_character : (c : ℕ) → 32 ≤ c → (c ≡ 34 → ⊥) → (c ≡ 92 → ⊥) → escape (encode_utf8 c) ≡ encode_utf8 c

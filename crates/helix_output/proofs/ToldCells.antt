@@ -158,10 +158,16 @@ number_first false ds rest c other whole same = whole_first ds rest c other whol
 
 -- no value is written as null is
 no_null : (field : Field) (v : Cell) → IsSmall v → InUniverse field.kind v → codes "null" ≡ json_cell field v → ⊥
-no_null field (cell.Bool true) small within same = omega (arith, same_first 110 116 (117 ∷ 108 ∷ 108 ∷ [])
-    (114 ∷ 117 ∷ 101 ∷ []) same)
-no_null field (cell.Bool false) small within same = omega (arith, same_first 110 102 (117 ∷ 108 ∷ 108 ∷ [])
-    (97 ∷ 108 ∷ 115 ∷ 101 ∷ []) same)
+no_null field (cell.Bool true) small within same = omega (
+  arith,
+  same_first 110 116 (117 ∷ 108 ∷ 108 ∷ [])
+      (114 ∷ 117 ∷ 101 ∷ []) same,
+)
+no_null field (cell.Bool false) small within same = omega (
+  arith,
+  same_first 110 102 (117 ∷ 108 ∷ 108 ∷ [])
+      (97 ∷ 108 ∷ 115 ∷ 101 ∷ []) same,
+)
 no_null field (cell.Number u) small within same =
     omega (
       arith,

@@ -72,7 +72,7 @@ module _ (profile : Content) (valid : IsValidProfile profile) where
           ) in
           let c = at profile valid number known in
           let first : get_or firsts number 0 ≡ first_of profile valid c.0 = first_is profile valid firsts are number
-              c.0 c.2 known in
+          c.0 c.2 known in
           let there : first_of profile valid c.0 < length profile.fields =
           named_is_there profile valid c.0 (first_of profile valid c.0) c.1 (names_first profile valid c.0 c.1) in
           ap (λ f. get_or labels f 0 == label) first
@@ -93,8 +93,10 @@ module _ (profile : Content) (valid : IsValidProfile profile) where
             constraints = numbers_below (λ number. get_or labels (get_or firsts number 0) 0 == label) (length firsts);
           }) (same_numbers (λ field. get_or labels field 0 == label) (is_linked profile.constraints label)
           (length profile.fields) field_tests)
-          ∙ (ap (λ l. record { fields = numbers_below (is_linked profile.constraints label) (length profile.fields);
-              constraints = l })
+          ∙ (ap (λ l. record {
+            fields = numbers_below (is_linked profile.constraints label) (length profile.fields);
+            constraints = l;
+          })
           (same_numbers (λ number. get_or labels (get_or firsts number 0) 0 == label)
           (is_grouped profile.constraints label) (length firsts) (constraint_tests firsts are))
           ∙ ap (λ n. record {
@@ -106,7 +108,7 @@ module _ (profile : Content) (valid : IsValidProfile profile) where
         → labelled_groups labels firsts ≡ groups_of profile
     same_groups firsts are =
         ap (λ n. map (labelled_group labels firsts) (numbers_below (λ f. get_or labels f 0 == f) n))
-            labelled.every_field
+        labelled.every_field
         ∙ (each_same (length profile.fields) (λ f within. within)
         ∙ ap (map (group_of profile)) (same_numbers (λ f. get_or labels f 0 == f) (is_least profile.constraints)
         (length profile.fields) own_or_not))
@@ -144,8 +146,14 @@ module _ (profile : Content) (valid : IsValidProfile profile) where
         let c = at profile valid k known in
         let there : first_of profile valid c.0 < length profile.fields =
         named_is_there profile valid c.0 (first_of profile valid c.0) c.1 (names_first profile valid c.0 c.1) in
-        omega (arith, labelled.every_field, there, get_or_default firsts k d 0 inside, first_is profile valid firsts
-            are k c.0 c.2 known)
+        omega (
+          arith,
+          labelled.every_field,
+          there,
+          get_or_default firsts k d 0 inside,
+          first_is profile valid firsts
+              are k c.0 c.2 known,
+        )
 
     pub groups_are : (result : Result (List Partition) Memory)
         → IfOk result (λ groups. groups ≡ labelled_groups labels firsts)

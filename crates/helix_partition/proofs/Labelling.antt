@@ -40,7 +40,7 @@ replaces_next from to old mid i v within replaces is = record {
   done = λ k below. ⊎_elim
       (λ here. ap (λ j. get_or (set mid i v) j 0) here ∙ (get_or-set_same mid i v 0 within
       ∙ (is ∙ ap (λ l. if l == from then to else l) (replaces.left i (omega arith)
-          ∙ ap (λ j. get_or old j 0) (sym here)))))
+      ∙ ap (λ j. get_or old j 0) (sym here)))))
       (λ other. get_or-set_other mid i k v 0 other ∙ replaces.done k (omega (arith, other)))
       (cases_eq k i);
   left = λ k above. get_or-set_other mid i k v 0 (λ e. omega (arith, above, e)) ∙ replaces.left k (omega arith);
@@ -187,7 +187,7 @@ joins_next old mid fields i within there joins =
           let inside : get_or fields j 0 < length mid =
           omega (arith, there j 0 (omega arith), joins.same_length) in
           kept_here mid (get_or fields 0 0) (get_or fields i 0) first here (get_or fields j 0) (get_or fields 0 0)
-              inside
+          inside
           first (joins.joined j earlier))
           (λ reached.
           let last : j ≡ i = omega arith in

@@ -181,7 +181,7 @@ map_same group other test (suc n) same =
     let earlier = map_same group other test n (λ x below. same x (omega (arith, below))) in ⊎_elim
     (λ passes. ap (map group) (taken test n passes) ∙ (map-append group (numbers_below test n) (n ∷ [])
     ∙ (ap (λ l. l ++ group n ∷ []) earlier
-        ∙ (ap (λ g. map other (numbers_below test n) ++ g ∷ []) (same n (omega arith) passes)
+    ∙ (ap (λ g. map other (numbers_below test n) ++ g ∷ []) (same n (omega arith) passes)
     ∙ (sym (map-append other (numbers_below test n) (n ∷ [])) ∙ sym (ap (map other) (taken test n passes)))))))
     (λ fails. ap (map group) (left test n fails) ∙ (earlier ∙ sym (ap (map other) (left test n fails))))
     (cases_Bool (test n))

@@ -99,7 +99,7 @@ own_labelled profile labels n are count = record {
     label : (a : ℕ) → a < length labels → get_or labels a 0 ≡ a
     label a within = ap (λ l. get_or l a 0) are
         ∙ (get_or-range_with_len 0 n a 0 (omega (arith, within, ap length are, length-range_with_len 0 n))
-            ∙ omega arith)
+        ∙ omega arith)
 
 -- one constraint more
 pub next_labelled : (profile : Content) (old new : List ℕ) (i : ℕ) (c d : Constraint) → IsValidProfile profile

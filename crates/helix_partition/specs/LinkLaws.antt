@@ -128,8 +128,11 @@ module _ (cs : List Constraint) where
 
   pub linked_by : (c : Constraint) (from to : ℕ) → IsIn cs c → Names c from → Names c to
       → is_linked cs from to ≡ true
-  linked_by c from to listed names also = path_linked from to (suc zero, onto cs zero from from to c refl listed names
-      also)
+  linked_by c from to listed names also = path_linked from to (
+    suc zero,
+    onto cs zero from from to c refl listed names
+        also,
+  )
 
   -- a field is linked with the fields of a constraint as with one of them
   pub in_group : (c : Constraint) (field named : ℕ) → Names c named → is_linked cs field named ≡ true

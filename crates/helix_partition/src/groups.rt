@@ -74,7 +74,7 @@ fn constraints_with(
     requires firsts { All (λ first. first < length labels.now) firsts.now }
     ensures { IfOk result (λ constraints. constraints
         ≡ numbers_below (λ number. slice_index labels.now (slice_index firsts.now number) == label)
-            (length firsts.now)) }
+        (length firsts.now)) }
 {
     let mut constraints = Numbers32::new(alloc);
     for (number, first) in firsts.iter().enumerate() {

@@ -73,7 +73,7 @@ mutual
       let both = All-parts (joined_tree (signed_trees condition true) ∷ joined_tree (signed_trees consequent true) ∷ [])
       row in
       after (Any-parts (All (joined_tree (signed_trees condition true) ∷ joined_tree (signed_trees consequent true) ∷
-          [])
+      [])
       ∷ joined_tree (signed_trees condition false) ∷ []) row) (
         ⊎_elim (λ h. let parts = both.0 h in inl (met.0 parts.0, then.0 parts.1.0))
             (⊎_elim (λ h. inr (unmet.0 h, tt)) (λ none. absurd none)),
@@ -83,7 +83,7 @@ mutual
       let met = join_mean condition row true (all_mean condition row true) in
       let then = join_mean consequent row false (all_mean consequent row false) in
       after (All-parts (joined_tree (signed_trees condition true) ∷ joined_tree (signed_trees consequent false) ∷ [])
-          row)
+      row)
       ((λ h. inl (met.0 h.0, then.0 h.1.0)), ⊎_elim (λ h. (met.1 h.0, (then.1 h.1, tt))) (λ none. absurd none.1))
   tree_means (If' pointer condition other_pointer consequent (Some' else_pointer other)) row sign =
       let met = join_mean condition row true (all_mean condition row true) in
@@ -93,9 +93,9 @@ mutual
       let both = All-parts (joined_tree (signed_trees condition true) ∷ joined_tree (signed_trees consequent sign) ∷ [])
       row in
       let rest = All-parts (joined_tree (signed_trees condition false) ∷ joined_tree (signed_trees other sign) ∷ [])
-          row in
+      row in
       after (Any-parts (All (joined_tree (signed_trees condition true) ∷ joined_tree (signed_trees consequent sign) ∷
-          [])
+      [])
       ∷ All (joined_tree (signed_trees condition false) ∷ joined_tree (signed_trees other sign) ∷ []) ∷ []) row) (
         ⊎_elim (λ h. let parts = both.0 h in inl (met.0 parts.0, then.0 parts.1.0))
             (⊎_elim (λ h. let parts = rest.0 h in inr (unmet.0 parts.0, otherwise.0 parts.1.0)) (λ none. absurd none)),

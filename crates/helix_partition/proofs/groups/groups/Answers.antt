@@ -10,7 +10,7 @@ loop-field-preserved c = elim c.if-label-field.branch [
   | then-label-field+in_ok-group+in_ok-push w ↦
       more_groups (labelled_group c.args.found.now.labels.items c.args.found.now.firsts)
       (λ f. get_or c.args.found.now.labels.items f 0 == f) c.loop-field.field _ c.loop-field.groups
-          c.if-label-field.groups
+      c.if-label-field.groups
       w.in_ok-group.field-0 w.if-label-field.true
       (eq-eqb (get_or c.args.found.now.labels.items c.loop-field.field 0) c.loop-field.field
       (ap (λ l. get_or l c.loop-field.field 0) (sym c.as_slice-label-items.ensures.value) ∙ w.if-label-field.true))
@@ -18,7 +18,7 @@ loop-field-preserved c = elim c.if-label-field.branch [
   | else-label-field w ↦
       no_more_groups (labelled_group c.args.found.now.labels.items c.args.found.now.firsts)
       (λ f. get_or c.args.found.now.labels.items f 0 == f) c.loop-field.field c.loop-field.groups
-          c.if-label-field.groups
+      c.if-label-field.groups
       (ne_eqb (get_or c.args.found.now.labels.items c.loop-field.field 0) c.loop-field.field
       (λ e. w.if-label-field.false (ap (λ l. get_or l c.loop-field.field 0) c.as_slice-label-items.ensures.value ∙ e)))
       c.loop-field.invariant w.groups-is

@@ -7,7 +7,7 @@ use Rattle.helix_tree.proofs.signed.+signed.Goals as goal
 pub tree_with-returns-in-Not : goal.tree_with-returns-in-Not
 tree_with-returns-in-Not t c = if_ok _ _ c.tree_with.result
     (λ tree. not_tree tree c.args.constraint.now c.in-Not.negated c.get.result.now c.args.sign c.in-Not.is
-        c.get.ensures)
+    c.get.ensures)
     c.tree_with.ensures
 
 pub tree_with-returns-then-sign : goal.tree_with-returns-then-sign
