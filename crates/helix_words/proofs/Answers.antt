@@ -1,69 +1,24 @@
 -- Least rests and branches are least words.
-use Rattle.std.proofs.Common.{◌≡◌, ◌⊎◌, ◌↔◌, inl, inr, ℕ, ◌+◌, ◌<◌, ◌≤◌, Bool, true, false, List, length, Some, None, Contains, refl, sym, ap, ◌∙◌, subst, arith, Ordering, nat_cmp}
+use Rattle.std.proofs.Common.{◌≡◌, ◌⊎◌, ◌↔◌, inl, inr, ℕ, ◌+◌, ◌<◌, ◌≤◌, Bool, true, false, List, length, Contains, refl, sym, ap, ◌∙◌, subst, arith, Ordering, nat_cmp}
 use Rattle.std.specs.declared.cmp.Ordering.TheVariants.{Less, Equal, Greater}
-use Rattle.std.specs.Ordering.{ordering_then, ordering_reverse, MatchOrdering}
-use Rattle.std.specs.Cmp.{nat_cmp_is}
+use Rattle.std.specs.Ordering.{ordering_reverse}
 use Rattle.std.specs.Cmp.Lexicographic.{slice_cmp}
 use Rattle.std.specs.FinMap.{nat_cmp-IsAntisymmetric, slice_cmp-IsAntisymmetric}
-use Rattle.std.proofs.lemmas.Cmp.{nat_list_cmp_total, tied_itself, ranked}
+use Rattle.std.proofs.lemmas.Cmp.{nat_list_cmp_total, tied_itself}
 use Rattle.std.proofs.lemmas.Bool.{cases_lt}
 use Rattle.helix_values.specs.declared.cell.Cell.{Cell}
 use Rattle.helix_values.specs.declared.cell.Cell.TheVariants as cell
 use Rattle.helix_values.specs.declared.mark.Mark.{Mark}
 use Rattle.helix_values.specs.Marks.{IsAdmitted}
-use Rattle.helix_values.specs.Order.{text_cmp, CellLess}
+use Rattle.helix_values.specs.Order.{CellLess}
 use Rattle.helix_words.specs.Words.{WordSet, IsWord, IsWordCell, IsLeastWord}
 use Rattle.helix_words.specs.Questions.{IsLeastAdmitted, IsLeastAnswer}
 use Rattle.helix_words.specs.Inner.Rests.{IsBefore, IsRest, IsLeastRest}
-use Rattle.helix_words.specs.Inner.Tables.{IsLengthOf}
-use Rattle.helix_words.specs.Inner.Lengths.{AreLengths, IsLeastOf}
+use Rattle.helix_words.specs.Inner.Tables.{IsLengthOf, IsLengthFrom, HasNoLengthFrom}
 use Rattle.helix_words.specs.Inner.Walks.{IsAbove, IsLeastAbove}
 use Rattle.helix_words.specs.Inner.Fills.{IsWordAnswer, IsFrom, IsAlikeFrom, IsLongFrom}
-use Rattle.helix_words.proofs.Order.{not_both, then_less}
-
--- the shorter text is less
-pub shorter_less : (a b : List ℕ) → length a < length b → CellLess (cell.Text a) (cell.Text b)
-shorter_less a b less = then_less (nat_cmp (length a) (length b)) (slice_cmp nat_cmp a b)
-    (sym (nat_cmp_is (length a) (length b) Less less))
-
--- texts of one length are compared by their characters
-pub alike_cmp : (a b : List ℕ) → length a ≡ length b → text_cmp a b ≡ slice_cmp nat_cmp a b
-alike_cmp a b same = ap (λ o. ordering_then o (slice_cmp nat_cmp a b)) (sym (nat_cmp_is (length a) (length b) Equal same))
-
--- a text is less that is shorter, or as long and less by its characters
-pub less_cases : (a b : List ℕ) → CellLess (cell.Text a) (cell.Text b)
-    → (length a < length b) ⊎ ((length a ≡ length b) × IsBefore a b)
-less_cases a b less =
-    by (nat_cmp (length a) (length b)) (ranked (length a) (length b) (nat_cmp (length a) (length b)) refl) less
-  where
-    by : (o : Ordering) → MatchOrdering o (length a < length b) (length a ≡ length b) (length b < length a)
-        → ordering_then o (slice_cmp nat_cmp a b) ≡ Less
-        → (length a < length b) ⊎ ((length a ≡ length b) × IsBefore a b)
-    by Less ranks is = inl ranks
-    by Equal ranks is = inr (ranks, is)
-    by Greater ranks is = cc
-
-pub less_length : (a b : List ℕ) → CellLess (cell.Text a) (cell.Text b) → length a ≤ length b
-less_length a b less = elim (less_cases a b less) [
-  | inl shorter ↦ omega (arith, shorter)
-  | inr alike ↦ omega (arith, alike.0)
-]
-
--- what isn't less is at least as long
-pub not_less_length : (a b : List ℕ) → ¬ (CellLess (cell.Text a) (cell.Text b)) → length b ≤ length a
-not_less_length a b not = elim (cases_lt (length a) (length b)) [
-  | inl less ↦ absurd (not (shorter_less a b less))
-  | inr long ↦ long
-]
-
-pub from_length : (strict : Bool) (text word : List ℕ) → IsFrom strict (cell.Text text) word → length text ≤ length word
-from_length true text word is = less_length text word is
-from_length false text word is = not_less_length word text is
-
--- longer words are from a text on
-pub longer_from : (strict : Bool) (text word : List ℕ) → length text < length word → IsFrom strict (cell.Text text) word
-longer_from true text word less = shorter_less text word less
-longer_from false text word less = λ below. let low = less_length word text below in omega (arith, low, less)
+use Rattle.helix_words.proofs.Order.{not_both}
+use Rattle.helix_words.proofs.TextOrder.{alike_cmp, less_cases, less_length, from_length, longer_from}
 
 -- a word of a set is a rest of the start
 pub rest_of_word : (words : WordSet) (word : List ℕ) → IsWord words word
@@ -90,14 +45,13 @@ word_of_rest words count word allowed is = record {
 
 module _ (words : WordSet) where
   -- the least rest of the least length
-  pub long_least : (lengths : List ℕ) → AreLengths (IsLengthOf words) lengths → (from count : ℕ) (word : List ℕ)
-      → IsLeastOf lengths from (Some count) → IsLeastRest words.automaton 0 count word
-      → IsLeastWord words (IsLongFrom from) word
-  long_least lengths are from count word least is = record {
-    is_word = word_of_rest words count word ((are.are count).0 least.some.0) is.is_rest;
-    admitted = omega (arith, least.some.1, is.is_rest.long);
+  pub long_least : (from count : ℕ) (word : List ℕ) → IsLengthFrom words from count
+      → IsLeastRest words.automaton 0 count word → IsLeastWord words (IsLongFrom from) word
+  long_least from count word least is = record {
+    is_word = word_of_rest words count word least.is_length is.is_rest;
+    admitted = omega (arith, least.high, is.is_rest.long);
     least = λ other other_is high less.
-        let low = least.some.2 (length other) ((are.are (length other)).1 (length_of_word words other other_is)) high in
+        let low = least.least (length other) (length_of_word words other other_is) high in
         by other other_is low (less_cases other word less);
   }
     where
@@ -109,10 +63,8 @@ module _ (words : WordSet) where
           (rest_of_word words other other_is)) before
 
   -- no length, no word
-  pub long_none : (lengths : List ℕ) → AreLengths (IsLengthOf words) lengths → (from : ℕ)
-      → IsLeastOf lengths from None → (word : List ℕ) → IsWord words word → ¬ (IsLongFrom from word)
-  long_none lengths are from none word is high =
-      none.none (length word) ((are.are (length word)).1 (length_of_word words word is)) high
+  pub long_none : (from : ℕ) → HasNoLengthFrom words from → (word : List ℕ) → IsWord words word → ¬ (IsLongFrom from word)
+  long_none from none word is high = none (length word) (length_of_word words word is) high
 
   module _ (text : List ℕ) (allowed : IsLengthOf words (length text)) where
     above_by : (word : List ℕ) → IsWord words word → length word ≡ length text → IsBefore text word

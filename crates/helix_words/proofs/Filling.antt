@@ -32,61 +32,6 @@ pub record SetsUpTo (bound place : ℕ) (flags : List Bool) (old new : List ℕ)
       → slice_index new state ≡ slice_index old state
   pub rest : (state : ℕ) → bound ≤ state → slice_index new state ≡ slice_index old state
 
-module _ (place : ℕ) (flags : List Bool) (old : List ℕ) where
-  pub sets_none : SetsUpTo 0 place flags old old
-  sets_none = record {
-    same_length = refl;
-    set = λ state less on. absurd (omega (arith, less));
-    kept = λ state less off. absurd (omega (arith, less));
-    rest = λ state from. refl;
-  }
-
-  module _ (bound : ℕ) (new : List ℕ) (sets : SetsUpTo bound place flags old new) where
-    -- one more state with a flag
-    pub sets_flag : bound < length new → get_or flags bound false ≡ true
-        → SetsUpTo (bound + 1) place flags old (set new bound (bit_or (slice_index new bound) (1 * 2 ^ place % 2 ^ 64)))
-    sets_flag within flag = record {
-      same_length = length-set new bound _ ∙ sets.same_length;
-      set = λ state less on. elim (cases_lt state bound) [
-        | inl before ↦ get_or-set_other new bound state _ 0 (λ same. omega (arith, same, before)) ∙ sets.set state before on
-        | inr at ↦ (let is : bound ≡ state = omega (arith, at, less) in
-            subst (λ k. slice_index (set new bound (bit_or (slice_index new bound) (1 * 2 ^ place % 2 ^ 64))) k
-            ≡ bit_or (slice_index old k) (1 * 2 ^ place % 2 ^ 64)) is
-            (get_or-set_same new bound _ 0 within
-            ∙ ap (λ n. bit_or n (1 * 2 ^ place % 2 ^ 64)) (sets.rest bound (omega arith))))
-      ];
-      kept = λ state less off. elim (cases_lt state bound) [
-        | inl before ↦ get_or-set_other new bound state _ 0 (λ same. omega (arith, same, before)) ∙ sets.kept state before off
-        | inr at ↦ (let is : state ≡ bound = omega (arith, at, less) in
-            let both : true ≡ false = sym flag ∙ ap (λ k. get_or flags k false) (sym is) ∙ off in cc)
-      ];
-      rest = λ state from.
-          get_or-set_other new bound state _ 0 (λ same. omega (arith, same, from)) ∙ sets.rest state (omega (arith, from));
-    }
-
-    -- one more without
-    pub sets_no_flag : get_or flags bound false ≡ false → SetsUpTo (bound + 1) place flags old new
-    sets_no_flag flag = record {
-      same_length = sets.same_length;
-      set = λ state less on. elim (cases_lt state bound) [
-        | inl before ↦ sets.set state before on
-        | inr at ↦ (let is : state ≡ bound = omega (arith, at, less) in
-            let both : true ≡ false = sym on ∙ ap (λ k. get_or flags k false) is ∙ flag in cc)
-      ];
-      kept = λ state less off. elim (cases_lt state bound) [
-        | inl before ↦ sets.kept state before off
-        | inr at ↦ sets.rest state at
-      ];
-      rest = λ state from. sets.rest state (omega (arith, from));
-    }
-
-    pub sets_all : length old ≤ bound → SetsBits place flags old new
-    sets_all past = record {
-      same_length = sets.same_length;
-      set = λ state within on. sets.set state (omega (arith, within, past)) on;
-      kept = λ state within off. sets.kept state (omega (arith, within, past)) off;
-    }
-
 -- bits in the last block and in those before it
 last_bits : (blocks : List (List ℕ)) (block : List ℕ) (state count : ℕ) → length blocks ≡ count / 64
     → bit_of (blocks ++ block ∷ []) state count ≡ bit_at (slice_index block state) (count % 64)
@@ -103,17 +48,6 @@ clear_bits : (block : List ℕ) (state place : ℕ) → AreClear block → state
 clear_bits block state place clear within = ap (λ n. bit_at n place) (clear state within) ∙ bit_at-zero place
 
 module _ (automaton : Automaton) where
-  -- before the first length
-  pub filled_none : (block : List ℕ) → length block ≡ length automaton.moves → AreClear block
-      → AreFilled automaton 0 0 0 [] block
-  filled_none block long clear = record {
-    whole = All-nil (λ full. length full ≡ length automaton.moves);
-    long = long;
-    many = refl;
-    bits = λ state count within less. absurd (omega (arith, less));
-    clear = λ state place within from. clear_bits block state place clear (omega (arith, long, within));
-  }
-
   module _ (bound : ℕ) (blocks : List (List ℕ)) (old new : List ℕ)
       (filled : AreFilled automaton bound bound (bound % 64) blocks old)
       (sets : SetsBits (bound % 64) (column automaton bound) old new) where

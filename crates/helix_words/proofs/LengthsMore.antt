@@ -1,12 +1,14 @@
 -- The lengths of words, one after the other, and the search in them.
-use Rattle.std.proofs.Common.{◌≡◌, ◌⊎◌, ◌↔◌, inl, inr, ⊎_elim, ℕ, zero, suc, ◌+◌, ◌-◌, ◌<◌, ◌≤◌, List, [], ◌∷◌, ◌++◌, length, get_or, slice_index, slice_get, Some, None, All, Contains, IsTrue, false, nat_eq, eqb-true, eq-eqb, sym, ap, ◌∙◌, subst, arith}
+use Rattle.std.proofs.Common.{◌≡◌, ◌⊎◌, ◌↔◌, inl, inr, ⊎_elim, ℕ, zero, suc, ◌+◌, ◌-◌, ◌<◌, ◌≤◌, List, [], ◌∷◌, ◌++◌, length, get_or, slice_index, slice_get, Option, Some, None, IfSome, IfNone, All, Contains, IsTrue, false, nat_eq, eqb-true, eq-eqb, sym, ap, ◌∙◌, subst, arith}
 use Rattle.std.specs.List.Sorted.{IsStrictlyIncreasing}
 use Rattle.std.proofs.lemmas.Bool.{cases_lt}
 use Rattle.std.proofs.lemmas.List.{get_or_append_left, get_or_push, length_push, get_or_default}
 use Rattle.std.proofs.lemmas.List.Elements.{All-nil, All-push, All-weaker, Contains-append_left, Contains-push, Contains-push_cases, Contains-get_or}
 use Rattle.std.proofs.lemmas.List.Kept.{AllPairs-from_increasing}
 use Rattle.std.proofs.lemmas.Option.{slice_get-get_or, slice_get_past}
+use Rattle.helix_words.specs.Words.{WordSet}
 use Rattle.helix_words.specs.Inner.Lengths.{AreLengths, IsLeastOf}
+use Rattle.helix_words.specs.Inner.Tables.{IsLengthOf, IsLengthFrom, HasNoLengthFrom}
 
 -- numbers in order up to a bound
 pub record AreLengthsBelow (IsLength : ℕ → Type 0) (bound : ℕ) (lengths : List ℕ) : Type 0 where
@@ -134,19 +136,39 @@ module _ (xs : List ℕ) (ascending : IsStrictlyIncreasing xs) where
       omega (arith, rise, at, get_or_default xs has.0 0 other has.1, has.2)
 
 -- a number is a length where it is the least one from itself on
-module _ (IsLength : ℕ → Type 0) (lengths : List ℕ) (are : AreLengths IsLength lengths) (count : ℕ) where
-  pub has_by_least : (least : ℕ) → IsLeastOf lengths count (Some least) → IsTrue (nat_eq least count) ↔ IsLength count
+module _ (words : WordSet) (count : ℕ) where
+  pub has_by_least : (least : ℕ) → IsLengthFrom words count least → IsTrue (nat_eq least count) ↔ IsLengthOf words count
   has_by_least least is = (
-    (λ same. subst IsLength (eqb-true least count same) ((are.are least).0 is.some.0)),
-    (λ allowed. let low = is.some.2 count ((are.are count).1 allowed) (omega arith) in
-        eq-eqb least count (omega (arith, low, is.some.1))),
+    (λ same. subst (IsLengthOf words) (eqb-true least count same) is.is_length),
+    (λ allowed. let low = is.least count allowed (omega arith) in eq-eqb least count (omega (arith, low, is.high))),
   )
 
-  pub has_by_none : IsLeastOf lengths count None → IsTrue false ↔ IsLength count
-  has_by_none is = (
-    (λ same. cc),
-    (λ allowed. absurd (is.none count ((are.are count).1 allowed) (omega arith))),
-  )
+  pub has_by_none : HasNoLengthFrom words count → IsTrue false ↔ IsLengthOf words count
+  has_by_none none = ((λ same. cc), (λ allowed. absurd (none count allowed (omega arith))))
+
+-- what is found among the lengths of words
+module _ (words : WordSet) (lengths : List ℕ) (are : AreLengths (IsLengthOf words) lengths) (short : words.longest ≤ 1000)
+    (start : 0 < length words.automaton.moves) (from : ℕ) (answer : Option ℕ) (is : IsLeastOf lengths from answer) where
+  pub length_found : IfSome answer (IsLengthFrom words from)
+  length_found = by answer is
+    where
+      by : (answer : Option ℕ) → IsLeastOf lengths from answer → IfSome answer (IsLengthFrom words from)
+      by None is = tt
+      by (Some count) is =
+          let allowed = (are.are count).0 is.some.0 in record {
+            start = start;
+            is_length = allowed;
+            few = omega (arith, allowed.not_long, short);
+            high = is.some.1;
+            least = λ other other_is high. is.some.2 other ((are.are other).1 other_is) high;
+          }
+
+  pub length_missing : IfNone answer (HasNoLengthFrom words from)
+  length_missing = by answer is
+    where
+      by : (answer : Option ℕ) → IsLeastOf lengths from answer → IfNone answer (HasNoLengthFrom words from)
+      by None is = λ other other_is high. is.none other ((are.are other).1 other_is) high
+      by (Some count) is = tt
 
 -- what stands at an index is listed
 pub last_listed : (xs : List ℕ) (k x : ℕ) → slice_get xs k ≡ Some x → Contains xs x

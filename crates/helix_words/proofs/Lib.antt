@@ -11,10 +11,12 @@ pub mod LiveArcs
 pub mod RowsMore
 pub mod Stepping
 pub mod StepAnswers
+pub mod Forks
 pub mod Walking
 pub mod Fillings
 pub mod AlongTrails
 pub mod GoingBack
 pub mod LengthsMore
+pub mod TextOrder
 pub mod Answers
 pub mod TrailAnswers

@@ -1,114 +1,96 @@
--- Steps among the arcs of a state that reach a code.
-use Rattle.std.proofs.Common.{◌≡◌, ◌↔◌, ℕ, ◌+◌, ◌<◌, ◌≤◌, min, max, Bool, true, false, Some, None, List, length, get_or, refl, sym, ap, ◌∙◌, subst, arith, length-drop, IsTrue}
-use Rattle.std.proofs.lemmas.Bool.{false≢true}
-use Rattle.std.proofs.lemmas.List.{get_or_default}
-use Rattle.helix_base.specs.Alphabet.{ranges_of}
-use Rattle.helix_base.specs.declared.alphabet.Alphabet.TheVariants.{Unicode}
-use Rattle.helix_base.specs.Ranges.{IsLeastFrom, EndsBelow}
+-- Steps among arcs, and the fork at a code.
+use Rattle.std.proofs.Common.{◌≡◌, ◌↔◌, ◌⊎◌, inl, inr, ℕ, zero, suc, ◌+◌, ◌-◌, ◌<◌, ◌≤◌, Bool, true, false, Option, Some, None, IfSome, IfNone, List, length, drop, get_or, refl, sym, ap, ◌∙◌, subst, arith, length-drop, IsTrue}
+use Rattle.std.proofs.lemmas.Bool.{false≢true, cases_lt}
+use Rattle.std.proofs.lemmas.List.{get_or_default, get_or-drop, get_or-take, length-take-le}
+use Rattle.std.proofs.lemmas.List.Elements.{All-drop}
 use Rattle.helix_automata.specs.declared.arc.Arc.{Arc}
-use Rattle.helix_automata.specs.Automaton.{most_arcs}
+use Rattle.helix_automata.specs.Automaton.{Automaton, holds}
 use Rattle.helix_automata.specs.Shape.{IsCharacter}
-use Rattle.helix_automata.proofs.Covering.{held, held_within}
-use Rattle.helix_words.specs.declared.rows.Rows.{Rows}
-use Rattle.helix_words.specs.declared.table.Table.{Table}
+use Rattle.helix_automata.proofs.Covering.{held}
+use Rattle.helix_words.specs.declared.step.Step.{Step}
 use Rattle.helix_words.specs.Words.{WordSet}
-use Rattle.helix_words.specs.Inner.Table.{bit_of}
-use Rattle.helix_words.specs.Inner.Rows.{row_of}
-use Rattle.helix_words.specs.Inner.Reaching.{AreReaching}
+use Rattle.helix_words.specs.Inner.Reaching.{AreReaching, IsHeld, AreArcsTo, AreArcsOnFrom, IsLeastIn, IsFork}
 use Rattle.helix_words.specs.Inner.Rests.{HasRest, LeadsToRest, IsStepFrom}
-use Rattle.helix_words.specs.Inner.Tables.{AreTables, AreArcsFrom}
-use Rattle.helix_words.proofs.InTables.{row_is, rest_is}
-use Rattle.helix_words.proofs.Stepping.{Passed, arc_from, passed_dead, passed_short, passed_end, step_found, step_none, first_holds}
+use Rattle.helix_words.specs.Inner.Tables.{IsArcFrom, AreArcsFrom}
+use Rattle.helix_words.proofs.Paths.{leads_once}
+use Rattle.helix_words.proofs.Stepping.{HoldsNone, Passed, passed_none, passed_dead, passed_empty, step_found, step_none, arcs_after}
 
-module _ (words : WordSet) (rows : Rows) (table : Table) (lengths : List ℕ) (are : AreTables words rows table lengths)
-    (state from rest : ℕ) (within : state < length words.automaton.moves) (short : rest < words.longest)
-    (row reaching : List Arc) (row_at : row ≡ row_of rows.starts rows.arcs state) (reach : AreReaching row from reaching) where
-  arcs : AreArcsFrom words.automaton words.longest state row
-  arcs = row_is words rows table lengths are state row within row_at
+-- the arcs of a state that reach a code
+module _ (words : WordSet) (state code : ℕ) (row reaching : List Arc)
+    (are : AreArcsFrom words.automaton words.longest state row) (reach : AreReaching row code reaching) where
+  read : (i : ℕ) (d : Arc) → get_or reaching i d ≡ get_or row (reach.skipped + i) d
+  read i d = ap (λ l. get_or l i d) reach.are ∙ get_or-drop reach.skipped row i d
 
-  -- no more arcs reach the code than the state with the most arcs has
-  pub few_reach : length reaching ≤ most_arcs words.automaton
-  few_reach = omega (arith, ap length reach.are, length-drop reach.skipped row, arcs.few)
+  left : length reaching + reach.skipped ≡ length row
+  left = omega (arith, ap length reach.are, length-drop reach.skipped row, reach.within)
 
-  pub reached_within : (i : ℕ) (d : Arc) → i < length reaching → (get_or reaching i d).to < length words.automaton.moves
-  reached_within i d in_reaching =
-      (arc_from words.automaton words.longest state from rest row arcs short reaching reach i d in_reaching).within
+  each : (i : ℕ) (d : Arc) → i < length reaching → IsArcFrom words.automaton state (get_or reaching i d)
+  each i d within =
+      subst (IsArcFrom words.automaton state) (sym (read i d)) (are.each (reach.skipped + i) d (omega (arith, left, within)))
 
-  module _ (i : ℕ) (d : Arc) (in_reaching : i < length reaching) (b : Bool)
-      (bit : IsTrue b ↔ (bit_of table.blocks (get_or reaching i d).to (min rest table.stable) ≡ 1))
-      (passed : Passed words.automaton state from rest reaching i) where
-    at : get_or reaching i (get_or reaching i d) ≡ get_or reaching i d
-    at = get_or_default reaching i (get_or reaching i d) d in_reaching
+  where_held : (from : ℕ) (other : Step) → code ≤ from → from ≤ other.character → (arc : Arc) (k : ℕ) → k < length row
+      → get_or row k arc ≡ arc → holds other.character arc ≡ true → IsHeld other.character reaching
+  where_held from other low high arc k within at holding = elim (cases_lt k reach.skipped) [
+    | inl before ↦
+        (let below = reach.below k arc (omega (arith, length-take-le reach.skipped row reach.within, before)) in
+        let is = ap (λ (a : Arc). a.last) (get_or-take reach.skipped row k arc before ∙ at) in
+        let h = held other.character arc holding in absurd (omega (arith, below, is, h.1, high, low)))
+    | inr after ↦ (let (i, sum) = split after in (
+      i,
+      omega (arith, left, within, sum),
+      (λ d. subst (λ a. holds other.character a ≡ true)
+          (sym (read i d ∙ ap (λ n. get_or row n d) sum ∙ get_or_default row k d arc within ∙ at)) holding),
+    ))
+  ]
+    where
+      split : reach.skipped ≤ k → (i : ℕ) × (reach.skipped + i ≡ k)
+      split after = (k - reach.skipped, omega (arith, after))
 
-    says : IsTrue b ↔ HasRest words.automaton (get_or reaching i d).to rest
-    says = rest_is words rows table lengths are (get_or reaching i d).to rest b (reached_within i d in_reaching)
-        (omega (arith, short)) bit
+  pub arcs_on : AreArcsOnFrom words state code reaching
+  arcs_on = record {
+    each = each;
+    are = λ from rest low short. record {
+      each = each;
+      in_order = λ i j d less within.
+          let order = are.in_order (reach.skipped + i) (reach.skipped + j) d (omega (arith, less)) (omega (arith, left, within)) in
+          omega (arith, order, ap (λ (a : Arc). a.last) (read i d), ap (λ (a : Arc). a.first) (read j d));
+      all = λ other goes high.
+          let (arc, has, holding) = are.all other.character other.to rest goes.leads short goes.has_rest in
+          where_held from other low high arc has.0 has.1 has.2 holding;
+    };
+    few = omega (arith, left, are.few);
+    reaches = reach.reaches;
+  }
 
-    pub arc_found : (from_there character : ℕ) → b ≡ true → from_there ≡ max (get_or reaching i d).first from
-        → IsLeastFrom (ranges_of Unicode) from_there character → character ≤ (get_or reaching i d).last
-        → IsStepFrom words.automaton state from rest (Some (record { character = character; to = (get_or reaching i d).to }))
-    arc_found from_there character yes_it is least low = record {
-      some = step_found words.automaton words.longest state from rest row arcs short reaching reach i (get_or reaching i d)
-          in_reaching at passed character (says.0 yes_it)
-          (subst (λ n. IsLeastFrom (ranges_of Unicode) n character) is least) low;
+-- the same of each state whose arcs they are
+abbrev pub ArePassed : Automaton → ℕ → ℕ → List Arc → ℕ → Type 0
+ArePassed automaton from rest arcs bound = (state : ℕ) → AreArcsTo automaton state from rest arcs
+    → Passed automaton state from rest arcs bound
+
+module _ (automaton : Automaton) (from rest : ℕ) (arcs : List Arc) where
+  pub arcs_begun : ArePassed automaton from rest arcs 0
+  arcs_begun state are = passed_none automaton state from rest arcs are
+
+  module _ (i : ℕ) (d : Arc) (within : i < length arcs) (passed : ArePassed automaton from rest arcs i) where
+    at : get_or arcs i (get_or arcs i d) ≡ get_or arcs i d
+    at = get_or_default arcs i (get_or arcs i d) d within
+
+    pub arc_found : (character : ℕ) → HasRest automaton (get_or arcs i d).to rest → IsLeastIn (get_or arcs i d) from character
+        → (state : ℕ) → AreArcsTo automaton state from rest arcs
+        → IsStepFrom automaton state from rest (Some (record { character = character; to = (get_or arcs i d).to }))
+    arc_found character has least state are = record {
+      some = step_found automaton state from rest arcs are i (get_or arcs i d) within at (passed state are) character has least;
       none = tt;
     }
 
-    pub arc_dead : b ≡ false → Passed words.automaton state from rest reaching (i + 1)
-    arc_dead no_it = passed_dead words.automaton words.longest state from rest row arcs short reaching reach i
-        (get_or reaching i d) in_reaching at passed (λ has. false≢true (sym no_it ∙ says.1 has))
+    pub arc_dead : ¬ (HasRest automaton (get_or arcs i d).to rest) → ArePassed automaton from rest arcs (i + 1)
+    arc_dead dead state are =
+        passed_dead automaton state from rest arcs are i (get_or arcs i d) within at (passed state are) dead
 
-    pub arc_short : (from_there character : ℕ) → from_there ≡ max (get_or reaching i d).first from
-        → IsLeastFrom (ranges_of Unicode) from_there character → (get_or reaching i d).last < character
-        → Passed words.automaton state from rest reaching (i + 1)
-    arc_short from_there character is least above = passed_short words.automaton words.longest state from rest row arcs
-        short reaching reach i (get_or reaching i d) in_reaching at passed character
-        (subst (λ n. IsLeastFrom (ranges_of Unicode) n character) is least) above
+    pub arc_empty : HoldsNone from (get_or arcs i d) → ArePassed automaton from rest arcs (i + 1)
+    arc_empty none state are =
+        passed_empty automaton state from rest arcs are i (get_or arcs i d) within at (passed state are) none
 
-    pub arc_end : (from_there : ℕ) → from_there ≡ max (get_or reaching i d).first from
-        → EndsBelow (ranges_of Unicode) from_there → Passed words.automaton state from rest reaching (i + 1)
-    arc_end from_there is ends = passed_end words.automaton words.longest state from rest row arcs short reaching reach i
-        (get_or reaching i d) in_reaching at passed (subst (EndsBelow (ranges_of Unicode)) is ends)
-
-  pub arcs_none : (bound : ℕ) → length reaching ≤ bound → Passed words.automaton state from rest reaching bound
-      → IsStepFrom words.automaton state from rest None
-  arcs_none bound past passed = record {
-    some = tt;
-    none = step_none words.automaton words.longest state from rest row arcs short reaching reach bound past passed;
-  }
-
-  -- the arc that holds the code
-  module _ (d : Arc) (b : Bool)
-      (bit : IsTrue b ↔ (bit_of table.blocks (get_or reaching 0 d).to (min rest table.stable) ≡ 1)) where
-    pub along_found : 0 < length reaching → IsCharacter from → (get_or reaching 0 d).first ≤ from → b ≡ true
-        → LeadsToRest words.automaton state rest (record { character = from; to = (get_or reaching 0 d).to })
-    along_found some character low yes_it = record {
-      is_character = character;
-      leads = (arc_from words.automaton words.longest state from rest row arcs short reaching reach 0 d some).leads from
-          (held_within from (get_or reaching 0 d) low (reach.reaches d some));
-      has_rest = (rest_is words rows table lengths are (get_or reaching 0 d).to rest b (reached_within 0 d some)
-          (omega (arith, short)) bit).0 yes_it;
-    }
-
-    pub along_dead : b ≡ false → (to : ℕ)
-        → ¬ (LeadsToRest words.automaton state rest (record { character = from; to = to }))
-    along_dead no_it to goes =
-        let first = first_holds words.automaton words.longest state from rest row arcs short reaching reach
-        (record { character = from; to = to }) goes refl d in
-        false≢true (sym no_it ∙ (rest_is words rows table lengths are (get_or reaching 0 d).to rest b
-        (reached_within 0 d first.0) (omega (arith, short)) bit).1
-        (subst (λ s. HasRest words.automaton s rest) (sym first.2) goes.has_rest))
-
-  pub along_above : (d : Arc) → from < (get_or reaching 0 d).first → (to : ℕ)
-      → ¬ (LeadsToRest words.automaton state rest (record { character = from; to = to }))
-  along_above d above to goes =
-      let first = first_holds words.automaton words.longest state from rest row arcs short reaching reach
-      (record { character = from; to = to }) goes refl d in
-      let h = held from (get_or reaching 0 d) first.1 in omega (arith, h.0, above)
-
-  pub along_none : length reaching ≡ 0 → (to : ℕ)
-      → ¬ (LeadsToRest words.automaton state rest (record { character = from; to = to }))
-  along_none none to goes =
-      let d : Arc = record { first = 0; last = 0; to = 0 } in
-      let first = first_holds words.automaton words.longest state from rest row arcs short reaching reach
-      (record { character = from; to = to }) goes refl d in omega (arith, first.0, none)
+  pub arcs_none : (bound : ℕ) → length arcs ≤ bound → ArePassed automaton from rest arcs bound
+      → (state : ℕ) → AreArcsTo automaton state from rest arcs → IsStepFrom automaton state from rest None
+  arcs_none bound past passed state are = step_none automaton state from rest arcs are bound past (passed state are)

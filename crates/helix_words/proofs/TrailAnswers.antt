@@ -1,5 +1,5 @@
 -- Least rests and branches in trails are least words.
-use Rattle.std.proofs.Common.{◌≡◌, ℕ, ◌+◌, ◌-◌, ◌≤◌, Bool, true, false, List, [], ◌∷◌, ◌++◌, length, take, slice_index, Contains, Some, sym, ap, ◌∙◌, subst, arith, append_assoc}
+use Rattle.std.proofs.Common.{◌≡◌, ℕ, ◌+◌, ◌-◌, ◌≤◌, Bool, true, false, List, [], ◌∷◌, ◌++◌, length, take, slice_index, sym, ap, ◌∙◌, subst, arith, append_assoc}
 use Rattle.std.proofs.lemmas.Bool.{true≢false}
 use Rattle.std.proofs.lemmas.List.{get_or_push, get_or-take, length_push, length-take-le}
 use Rattle.helix_automata.specs.Automaton.{Automaton, Leads}
@@ -7,13 +7,12 @@ use Rattle.helix_words.specs.declared.step.Branch.{Branch}
 use Rattle.helix_words.specs.Words.{WordSet, IsWord, IsLeastWord, HasRoomFor}
 use Rattle.helix_words.specs.Trails.{Along, AreAlong, IsAlong, HoldsLeast, IsTrailAnswer, IsWordAbove}
 use Rattle.helix_words.specs.Inner.Rests.{IsRest, IsLeastRest}
-use Rattle.helix_words.specs.Inner.Tables.{IsLengthOf}
-use Rattle.helix_words.specs.Inner.Lengths.{AreLengths, IsLeastOf}
+use Rattle.helix_words.specs.Inner.Tables.{IsLengthOf, IsLengthFrom}
 use Rattle.helix_words.specs.Inner.Walks.{IsAbove, IsLeastAbove, IsLeastBranch}
 use Rattle.helix_words.specs.Inner.Fills.{Extends, TakesLeastAbove, IsLongFrom, IsAlikeFrom}
 use Rattle.helix_words.proofs.Paths.{along_once}
 use Rattle.helix_words.proofs.AlongTrails.{along_push, along_take, along_path}
-use Rattle.helix_words.proofs.Answers.{long_least, length_of_word, branch_least, branch_none, alike_first, longer_least, longer}
+use Rattle.helix_words.proofs.Answers.{word_of_rest, long_least, length_of_word, branch_least, branch_none, alike_first, longer_least, longer}
 
 -- the empty word in the room of a trail
 abbrev pub cleared : Along → Along
@@ -21,32 +20,22 @@ cleared trail = record { word = []; states = 0 ∷ []; room = trail.room }
 
 module _ (words : WordSet) where
   -- the least word of the least length
-  pub starts_least : (lengths : List ℕ) → AreLengths (IsLengthOf words) lengths → (from count : ℕ) (old new : Along)
-      → IsLeastOf lengths from (Some count) → Extends words.automaton count (cleared old) new
-      → HoldsLeast words (IsLongFrom from) old new
-  starts_least lengths are from count old new least extends =
+  pub starts_least : (from count : ℕ) (old new : Along) → IsLengthFrom words from count
+      → Extends words.automaton count (cleared old) new → HoldsLeast words (IsLongFrom from) old new
+  starts_least from count old new least extends =
       let is_least : IsLeastWord words (IsLongFrom from) new.word =
       subst (IsLeastWord words (IsLongFrom from)) (sym extends.word)
-      (long_least words lengths are from count extends.rest least extends.is_least) in record {
+      (long_least words from count extends.rest least extends.is_least) in record {
         along = record { is_word = is_least.is_word; along = extends.along };
         room = extends.room;
         is_least = is_least;
       }
 
   -- there is room for it
-  pub starts_in_room : (lengths : List ℕ) → AreLengths (IsLengthOf words) lengths → (from count room : ℕ)
-      → IsLeastOf lengths from (Some count) → HasRoomFor words room → count ≤ room
-  starts_in_room lengths are from count room least has_room =
-      let allowed = (are.are count).0 least.some.0 in
-      let word : List ℕ = allowed.has_rest.0 in
-      let is = allowed.has_rest.1 in
-      let low = has_room word (record {
-        characters = is.characters;
-        accepted = is.accepted;
-        not_short = omega (arith, allowed.not_short, is.long);
-        not_long = omega (arith, allowed.not_long, is.long);
-        not_refused = λ refused. allowed.not_refused (subst (Contains words.refused) is.long refused);
-      }) in omega (arith, low, is.long)
+  pub starts_in_room : (count room : ℕ) → IsLengthOf words count → HasRoomFor words room → count ≤ room
+  starts_in_room count room allowed has_room =
+      let (word, is) = allowed.has_rest in
+      let low = has_room word (word_of_rest words count word allowed is) in omega (arith, low, is.long)
 
   module _ (old : Along) (along : IsAlong words old) where
     not_equal : ¬ ((true ≡ false) × IsRest words.automaton 0 (length old.word) old.word)

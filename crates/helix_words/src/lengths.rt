@@ -1,11 +1,13 @@
 //! The lengths of words.
 
-ghost use Rattle.std.specs.Prelude.{◌≡◌, ◌<◌, ◌≤◌, ◌/◌, ◌↔◌, length, IfOk, All, IsTrue};
+ghost use Rattle.std.specs.Prelude.{◌≡◌, ◌<◌, ◌≤◌, ◌/◌, ◌↔◌, length, IfOk, IfSome, IfNone, All, IsTrue};
 ghost use Rattle.std.specs.List.{Contains};
 ghost use Rattle.std.specs.List.Sorted.{IsStrictlyIncreasing};
 ghost use Rattle.helix_words.specs.Inner.Lengths.{IsAllowed, AreLengths, IsLeastOf};
+ghost use Rattle.helix_words.specs.Inner.Tables.{IsLengthOf, IsLengthFrom, HasNoLengthFrom};
 
 use crate::table::Table;
+use crate::words::Words;
 use helix_base::{Memory, Numbers32};
 use std::alloc::Global;
 
@@ -38,13 +40,33 @@ pub fn lengths_of(
     Ok(lengths)
 }
 
-/// The least length that isn't below a number.
-pub fn length_from(lengths: &[u32], from: u32) -> Option<u32>
-    requires { IsStrictlyIncreasing lengths.now }
-    ensures { IsLeastOf lengths.now from result }
+/// The least of some numbers that isn't below another.
+fn number_from(numbers: &[u32], from: u32) -> Option<u32>
+    requires { IsStrictlyIncreasing numbers.now }
+    ensures { IsLeastOf numbers.now from result }
 {
-    match lengths.binary_search(&from) {
+    match numbers.binary_search(&from) {
         Ok(_) => Some(from),
-        Err(index) => lengths.get(index).copied(),
+        Err(index) => numbers.get(index).copied(),
+    }
+}
+
+/// The least length from a number on that some word of the set has.
+#[inline(always)]
+pub fn length_from(words: &Words, from: u32) -> Option<u32>
+    ensures some { IfSome result (IsLengthFrom words.now from) }
+    ensures none { IfNone result (HasNoLengthFrom words.now from) }
+{
+    number_from(words.lengths.as_slice(), from)
+}
+
+/// Whether some word of the set has a number of characters.
+#[inline(always)]
+pub fn has_length(words: &Words, count: u32) -> bool
+    ensures { IsTrue result ↔ IsLengthOf words.now count }
+{
+    match length_from(words, count) {
+        Some(least) => least == count,
+        None => false,
     }
 }

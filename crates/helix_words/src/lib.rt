@@ -27,7 +27,9 @@
 mod blocks;
 mod column;
 mod fill;
+mod fork;
 mod lengths;
+mod reach;
 mod rows;
 mod slots;
 mod step;

@@ -1,6 +1,6 @@
 //! Questions whose answers go into slots.
 
-ghost use Rattle.std.specs.Prelude.{◌≡◌, ◌+◌, ◌*◌, ◌<◌, ◌≤◌, ◌↔◌, length, IsTrue};
+ghost use Rattle.std.specs.Prelude.{◌*◌, ◌<◌, ◌≤◌, length};
 ghost use Rattle.std.specs.Bool.{OnFalse};
 ghost use Rattle.helix_values.specs.declared.cell.Cell.TheVariants as cells;
 ghost use Rattle.helix_values.specs.View.{cell_of};
@@ -11,7 +11,7 @@ ghost use Rattle.helix_words.specs.Inner.Walks.{IsLeastBranch};
 ghost use Rattle.helix_words.specs.Inner.Fills.{IsWordAnswer, IsFrom, IsAlikeFrom, IsLongFrom, PutsLeastAbove};
 
 use crate::fill::fill;
-use crate::lengths::length_from;
+use crate::lengths::{has_length, length_from};
 use crate::step::Branch;
 use crate::walk::walk_along;
 use crate::words::Words;
@@ -23,7 +23,7 @@ pub fn put_long<L: Ledger>(words: &Words, from: u32, out: &mut Slot, steps: &mut
     ensures answer { IsWordAnswer words.now (IsLongFrom from) result out.old out.new }
     ensures moves { MovedAtMost L.IsNoted (1000 * most_arcs words.now.automaton) steps.old steps.new }
 {
-    match length_from(words.lengths.as_slice(), from) {
+    match length_from(words, from) {
         Some(count) => {
             out.set(CellRef::Text(&[]));
             fill(words, 0, count, out, steps);
@@ -66,10 +66,8 @@ fn put_alike<L: Ledger>(
     requires start { 0 < length words.now.automaton.moves }
     requires length { IsLengthOf words.now (length word.now) }
     ensures answer { IsWordAnswer words.now (IsAlikeFrom strict word.now) result out.old out.new }
-    ensures moves { MovedAtMost L.IsNoted (length word.now * (2 * most_arcs words.now.automaton + 1))
-        steps.old steps.new }
-    ensures few { OnFalse result (MovedAtMost L.IsNoted (length word.now * (most_arcs words.now.automaton + 1))
-        steps.old steps.new) }
+    ensures moves { MovedAtMost L.IsNoted (length word.now * (2 * most_arcs words.now.automaton)) steps.old steps.new }
+    ensures few { OnFalse result (MovedAtMost L.IsNoted (length word.now * most_arcs words.now.automaton) steps.old steps.new) }
 {
     let walk = walk_along(words, word, steps);
     if walk.accepted && !strict {
@@ -85,17 +83,6 @@ fn put_alike<L: Ledger>(
     }
 }
 
-/// Whether some word of the set has a number of characters.
-#[inline(always)]
-fn has_length(words: &Words, count: u32) -> bool
-    ensures { IsTrue result ↔ IsLengthOf words.now count }
-{
-    match length_from(words.lengths.as_slice(), count) {
-        Some(least) => least == count,
-        None => false,
-    }
-}
-
 /// Puts the least of the words from a word on into a slot.
 pub fn put_from<L: Ledger>(
     words: &Words,
@@ -105,7 +92,7 @@ pub fn put_from<L: Ledger>(
     steps: &mut Steps<L>,
 ) -> bool
     ensures answer { IsWordAnswer words.now (IsFrom strict (cells.Text word.now)) result out.old out.new }
-    ensures moves { MovedAtMost L.IsNoted (1000 * (2 * most_arcs words.now.automaton + 1)) steps.old steps.new }
+    ensures moves { MovedAtMost L.IsNoted (1000 * (2 * most_arcs words.now.automaton)) steps.old steps.new }
 {
     if word.len() > words.longest as usize {
         return false;
@@ -126,7 +113,7 @@ pub fn put_from_cell<L: Ledger>(
     steps: &mut Steps<L>,
 ) -> bool
     ensures answer { IsWordAnswer words.now (IsFrom strict (cell_of bound.entry)) result out.old out.new }
-    ensures moves { MovedAtMost L.IsNoted (1000 * (2 * most_arcs words.now.automaton + 1)) steps.old steps.new }
+    ensures moves { MovedAtMost L.IsNoted (1000 * (2 * most_arcs words.now.automaton)) steps.old steps.new }
 {
     match bound {
         CellRef::Text(word) => put_from(words, word, strict, out, steps),

@@ -27,7 +27,7 @@ pub fn start_long<L: Ledger>(
     ensures answer { IsTrailAnswer words.now (IsLongFrom from) result trail.old trail.new }
     ensures moves { MovedAtMost L.IsNoted (1000 * most_arcs words.now.automaton) steps.old steps.new }
 {
-    match length_from(words.lengths.as_slice(), from) {
+    match length_from(words, from) {
         Some(count) => {
             trail.clear();
             extend(words, trail, count, steps);

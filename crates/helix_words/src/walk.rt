@@ -1,12 +1,13 @@
 //! The walk along a word.
 
-ghost use Rattle.std.specs.Prelude.{◌≡◌, ◌+◌, ◌*◌, ◌<◌, ◌≤◌, length, MatchOption};
+ghost use Rattle.std.specs.Prelude.{◌≡◌, ◌*◌, ◌<◌, ◌≤◌, length, MatchOption};
 ghost use Rattle.helix_automata.specs.Automaton.{most_arcs};
 ghost use Rattle.helix_words.specs.Moves.{MovedAtMost};
 ghost use Rattle.helix_words.specs.Inner.Rests.{HasRest};
 ghost use Rattle.helix_words.specs.Inner.Walks.{IsWalkAlong};
 
-use crate::step::{Branch, Step, step_above, step_along};
+use crate::fork::fork_at;
+use crate::step::{Branch, Step};
 use crate::words::Words;
 use helix_base::{Ledger, Steps};
 
@@ -35,15 +36,15 @@ pub fn walk_along<L: Ledger>(words: &Words, word: &[u32], steps: &mut Steps<L>) 
     requires count { length word.now ≤ words.now.longest }
     requires rest { HasRest words.now.automaton 0 (length word.now) }
     ensures walk { IsWalkAlong words.now.automaton word.now result }
-    ensures moves { MovedAtMost L.IsNoted (length word.now * (most_arcs words.now.automaton + 1)) steps.old steps.new }
+    ensures moves { MovedAtMost L.IsNoted (length word.now * most_arcs words.now.automaton) steps.old steps.new }
 {
     let mut state = 0;
     let mut branch = None;
     for (place, code) in word.iter().enumerate() {
         let rest = (word.len() - place - 1) as u32;
-        let above = step_above(words, state, *code, rest, steps);
-        branch = deeper(branch, place as u32, above);
-        match step_along(words, state, *code, rest, steps) {
+        let fork = fork_at(words, state, *code, rest, steps);
+        branch = deeper(branch, place as u32, fork.above);
+        match fork.along {
             Some(next) => state = next,
             None => {
                 return Walk {

@@ -41,6 +41,18 @@ pub record IsLengthOf (words : WordSet) (count : ℕ) : Type 0 where
   pub not_refused : ¬ Contains words.refused count
   pub has_rest : HasRest words.automaton 0 count
 
+-- the least number of characters from one on that some word of the set has, and the start is a state
+pub record IsLengthFrom (words : WordSet) (from count : ℕ) : Type 0 where
+  pub start : 0 < length words.automaton.moves
+  pub is_length : IsLengthOf words count
+  pub few : count ≤ 1000
+  pub high : from ≤ count
+  pub least : (other : ℕ) → IsLengthOf words other → from ≤ other → count ≤ other
+
+-- no word of the set has as many characters
+abbrev pub HasNoLengthFrom : WordSet → ℕ → Type 0
+HasNoLengthFrom words from = (other : ℕ) → IsLengthOf words other → ¬ (from ≤ other)
+
 -- the arcs, the table and the lengths of a set of words
 pub record AreTables (words : WordSet) (rows : Rows) (table : Table) (lengths : List ℕ) : Type 0 where
   pub well_formed : IsWellFormed words.automaton

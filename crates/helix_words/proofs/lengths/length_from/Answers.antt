@@ -1,22 +1,23 @@
-use Rattle.std.proofs.Common.{◌≡◌, ◌∙◌, ℕ, ◌<◌, ◌≤◌, List, length, Bor, Option, Some, None, Err, ap, sym}
-use Rattle.std.specs.List.{HoldsAt, slice_get}
-use Rattle.std.specs.Option.{MatchOption, option_copied}
-use Rattle.std.proofs.lemmas.Option.{slice_get-get_or, slice_get_past}
-use Rattle.std.proofs.lemmas.List.Sorted.{searched}
-use Rattle.helix_words.proofs.LengthsMore.{rising, least_inserted}
+use Rattle.std.proofs.Common.{sym, subst}
+use Rattle.helix_words.specs.Inner.Tables.{AreTables, IsLengthOf}
+use Rattle.helix_words.specs.Inner.Lengths.{AreLengths}
+use Rattle.helix_words.proofs.LengthsMore.{length_found, length_missing}
 use Rattle.helix_words.proofs.lengths.length_from.Goals as goal
 
--- a read of an index gives the number there, or None past the end
-read_is : (xs : List ℕ) (i : ℕ) (r : Option (Bor ℕ))
-    → MatchOption r (length xs ≤ i) (λ x. (i < length xs) × HoldsAt (λ y. x.now ≡ y) xs i)
-    → option_copied r ≡ slice_get xs i
-read_is xs i None past = sym (slice_get_past xs i past)
-read_is xs i (Some x) read = ap Some (read.1 x.now) ∙ sym (slice_get-get_or xs i x.now read.0)
+pub returns-clause-some : goal.returns-clause-some
+returns-clause-some c =
+    let are = subst (λ w. AreTables w c.words.inside.rows c.words.inside.table c.words.inside.lengths) c.words.view_is
+    c.words.invariant in
+    length_found c.args.words.now c.as_slice.result.now
+    (subst (AreLengths (IsLengthOf c.args.words.now)) (sym c.as_slice.ensures) are.are_lengths) are.short are.well_formed.some
+    c.args.from
+    c.number_from.result c.number_from.ensures
 
-pub returns-in-Err : goal.returns-in-Err
-returns-in-Err c =
-    let is : c.copied.result ≡ slice_get c.args.lengths.now c.in-Err.index =
-    c.copied.ensures ∙ read_is c.args.lengths.now c.in-Err.index c.get.result c.get.ensures.lookup.3 in
-    let found = searched c.args.lengths.now c.args.from (Err c.in-Err.index) c.in-Err.ensures.position
-    (rising c.args.lengths.now c.requires) in
-    rw is (least_inserted c.args.lengths.now c.requires c.args.from c.in-Err.index found.1 found.2)
+pub returns-clause-none : goal.returns-clause-none
+returns-clause-none c =
+    let are = subst (λ w. AreTables w c.words.inside.rows c.words.inside.table c.words.inside.lengths) c.words.view_is
+    c.words.invariant in
+    length_missing c.args.words.now c.as_slice.result.now
+    (subst (AreLengths (IsLengthOf c.args.words.now)) (sym c.as_slice.ensures) are.are_lengths) are.short are.well_formed.some
+    c.args.from
+    c.number_from.result c.number_from.ensures

@@ -38,7 +38,7 @@ returns-clause-moves g c =
     elim c.else-has_length.branch [
       | else-has_length-via-then-has_length+else-put_alike w ↦
           (let first = subst (λ b. OnFalse b (MovedAtMost g.L.Ledger.IsNoted
-          (length c.args.word.now * (most_arcs c.args.words.now.automaton + 1)) c.args.steps.now w.put_alike.new.steps))
+          (length c.args.word.now * most_arcs c.args.words.now.automaton) c.args.steps.now w.put_alike.new.steps))
           w.if-put_alike.false w.put_alike.ensures.few in
           moved_walk_on g.L.Ledger.IsNoted (length c.args.word.now) (most_arcs c.args.words.now.automaton)
           c.args.steps.now w.put_alike.new.steps c.put_long.new.steps
@@ -47,7 +47,7 @@ returns-clause-moves g c =
           c.put_long.new.steps) w.steps-is c.put_long.ensures.moves))
       | else-has_length-via-else-has_length w ↦
           moved_wider g.L.Ledger.IsNoted (1000 * most_arcs c.args.words.now.automaton)
-          (1000 * (2 * most_arcs c.args.words.now.automaton + 1)) c.args.steps.now c.put_long.new.steps (omega arith)
+          (1000 * (2 * most_arcs c.args.words.now.automaton)) c.args.steps.now c.put_long.new.steps (omega arith)
           (subst (λ old. MovedAtMost g.L.Ledger.IsNoted (1000 * most_arcs c.args.words.now.automaton) old
           c.put_long.new.steps) w.steps-is c.put_long.ensures.moves)
     ]

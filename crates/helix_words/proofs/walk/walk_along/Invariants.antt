@@ -1,4 +1,4 @@
-use Rattle.std.proofs.Common.{◌+◌, ◌*◌}
+use Rattle.std.proofs.Common.{◌*◌}
 use Rattle.helix_automata.specs.Automaton.{most_arcs}
 use Rattle.helix_words.specs.Moves.{MovedAtMost}
 use Rattle.helix_words.proofs.Walking.{HasWalked}
@@ -7,5 +7,5 @@ use Rattle.helix_words.proofs.walk.walk_along.Given as goal
 abbrev pub invariant-loop-place : goal.invariant-loop-place
 invariant-loop-place g l = record {
   walked : HasWalked l.words.automaton l.word l.place l.state l.branch;
-  moved : MovedAtMost g.L.Ledger.IsNoted (l.place * (most_arcs l.words.automaton + 1)) l.initial.steps l.steps;
+  moved : MovedAtMost g.L.Ledger.IsNoted (l.place * most_arcs l.words.automaton) l.initial.steps l.steps;
 }

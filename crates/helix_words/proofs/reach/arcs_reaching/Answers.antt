@@ -1,7 +1,7 @@
 use Rattle.std.proofs.Common.{◌<◌}
 use Rattle.std.proofs.lemmas.List.Elements.{All-more}
 use Rattle.helix_automata.specs.declared.arc.Arc.{Arc}
-use Rattle.helix_words.proofs.step.arcs_reaching.Goals as goal
+use Rattle.helix_words.proofs.reach.arcs_reaching.Goals as goal
 
 pub loop-i-preserved : goal.loop-i-preserved
 loop-i-preserved c =
