@@ -35,3 +35,6 @@ pub use digest::identity;
 pub use fault::TokenFault;
 pub use read::read_token;
 pub use write::write_token;
+
+#[cfg(test)]
+mod tests;
