@@ -32,7 +32,8 @@ pub value_scalars : (k : Kind) (v : Cell) → InUniverse k v → all_scalars (ce
 value_scalars k cell.Null within = refl
 value_scalars k (cell.Bool true) within = refl
 value_scalars k (cell.Bool false) within = refl
-value_scalars k (cell.Number u) within = inner_scalars (cell_text k (cell.Number u)) (units_inner u (decimal_of k u within))
+value_scalars k (cell.Number u) within =
+    inner_scalars (cell_text k (cell.Number u)) (units_inner u (decimal_of k u within))
 value_scalars k (cell.Moment at) within = inner_scalars (cell_text k (cell.Moment at)) (moment_inner k at)
 value_scalars k (cell.Text t) within = text_is_scalar k t within
 

@@ -20,7 +20,8 @@ pub no_fault : (bytes identity : List ℕ) (fields : List Field) (strings : List
     → HasTokenForm bytes identity strings → AreCellsOf fields row → strings ≡ cell_strings fields row
     → (f : TokenFault) → IsFirstFault bytes identity fields f → ⊥
 no_fault bytes identity fields strings row form cells same fault.Form none = none identity strings form
-no_fault bytes identity fields strings row form cells same (fault.OtherProfile found wanted) (other, of_other, apart, is) =
+no_fault bytes identity fields strings row form cells same (fault.OtherProfile found wanted)
+    (other, of_other, apart, is) =
     apart (form_told bytes found identity other strings of_other form).0
 no_fault bytes identity fields strings row form cells same (fault.Cell index) (other, of_other, first) =
     faultless fields row cells index

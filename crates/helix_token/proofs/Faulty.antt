@@ -3,7 +3,7 @@ use Rattle.std.proofs.Common.{◌≡◌, ℕ, zero, suc, ◌+◌, ◌<◌, ◌�
 use Rattle.std.specs.List.{slice_get}
 use Rattle.std.specs.Prelude.{Option, MatchOption}
 use Rattle.std.proofs.lemmas.List.{take_more, take_all}
-use Rattle.std.proofs.lemmas.Option.{slice_get_cases, slice_get_past, slice_get_read, slice_get-get_or}
+use Rattle.std.proofs.lemmas.Option.{slice_get_cases, slice_get_past, slice_get_read}
 use borrow.Author.Count.{below_more}
 use Rattle.helix_values.specs.declared.cell.Cell.{Cell}
 use Rattle.helix_profile.specs.Good.{AreCellsOf, IsCellOf}
@@ -27,10 +27,6 @@ module _ (fields : List Field) (strings : List (List ℕ)) (i : ℕ) where
       subst (λ (t : Option (List ℕ)). IsFaulty field t) of_text
       (subst (λ (f : Option Field). IsFaulty f (slice_get strings i)) of_field faulty)
 
-  pub no_field : length fields ≤ i → i < length strings → IsFaultyAt
-  no_field past within =
-      faulty_as None (Some (get_or strings i [])) (slice_get_past fields i past) (slice_get-get_or strings i [] within) tt
-
   pub no_text : length strings ≤ i → i < length fields → IsFaultyAt
   no_text past within = elim ((slice_get_cases fields i).1) [
     | inl found ↦ faulty_as (Some found.0) None found.2 (slice_get_past strings i past) tt
@@ -39,18 +35,13 @@ module _ (fields : List Field) (strings : List (List ℕ)) (i : ℕ) where
 
   module _ (field : Field) (text : List ℕ) (in_fields : i < length fields) (in_strings : i < length strings)
       (of_field : field ≡ get_or fields i field) (of_text : text ≡ get_or strings i text) where
-    pub faulty_here : ((v : Cell) → IsCellOf field v → text ≡ cell_string field v → ⊥) → IsFaultyAt
-    faulty_here none =
-        faulty_as (Some field) (Some text) (slice_get_read fields (length fields) i field refl in_fields of_field) (slice_get_read strings (length strings) i text refl in_strings of_text)
-        none
-
     pub good_here : (v : Cell) → IsCellOf field v → text ≡ cell_string field v → IsFaultyAt → ⊥
     good_here v is same faulty =
         as_faulty (Some field) (Some text) (slice_get_read fields (length fields) i field refl in_fields of_field)
         (slice_get_read strings (length strings) i text refl in_strings of_text) faulty v is same
 
-cells_push : (fields : List Field) (row : List Cell) (field : Field) (v : Cell) → AreCellsOf fields row → IsCellOf field v
-    → AreCellsOf (fields ++ field ∷ []) (row ++ v ∷ [])
+cells_push : (fields : List Field) (row : List Cell) (field : Field) (v : Cell) → AreCellsOf fields row
+    → IsCellOf field v → AreCellsOf (fields ++ field ∷ []) (row ++ v ∷ [])
 cells_push [] [] field v cells is = (is, tt)
 cells_push (f ∷ fields) (w ∷ row) field v cells is = (cells.0, cells_push fields row field v cells.1 is)
 cells_push [] (w ∷ row) field v cells is = absurd cells
@@ -70,10 +61,8 @@ pub record HasRead (fields : List Field) (strings : List (List ℕ)) (row : List
   pub texts : take i strings ≡ cell_strings (take i fields) row
   pub before : (k : ℕ) → k < i → IsFaultyAt fields strings k → ⊥
 
-pub HasRead-none : (fields : List Field) (strings : List (List ℕ)) → HasRead fields strings [] 0
-HasRead-none fields strings = record { cells = tt; texts = refl; before = λ k below. absurd (omega arith) }
-
-item_or : {X : Type 0} (xs : List X) (i : ℕ) (x : X) → i < length xs → x ≡ get_or xs i x → take (i + 1) xs ≡ take i xs ++ x ∷ []
+item_or : {X : Type 0} (xs : List X) (i : ℕ) (x : X) → i < length xs → x ≡ get_or xs i x
+    → take (i + 1) xs ≡ take i xs ++ x ∷ []
 item_or xs i x within is = take_more xs i x within ∙ ap (λ y. take i xs ++ y ∷ []) (sym is)
 
 -- one cell more
@@ -94,15 +83,6 @@ HasRead-more fields strings row i field text v in_fields in_strings of_field of_
           (good_here fields strings i field text in_fields in_strings of_field of_text v is same);
     }
 
--- all cells
-pub all_read : (fields : List Field) (strings : List (List ℕ)) (row : List Cell) (i : ℕ) → length fields ≤ i
-    → length strings ≤ i → HasRead fields strings row i → AreCellsOf fields row × (strings ≡ cell_strings fields row)
-all_read fields strings row i past_fields past_strings read =
-    let whole = take_all i fields past_fields in (
-      subst (λ (fs : List Field). AreCellsOf fs row) whole read.cells,
-      sym (take_all i strings past_strings) ∙ read.texts ∙ ap (λ (fs : List Field). cell_strings fs row) whole,
-    )
-
 -- the strings of a row of cells have no fault
 pub faultless : (fields : List Field) (row : List Cell) → AreCellsOf fields row → (k : ℕ)
     → IsFaultyAt fields (cell_strings fields row) k → ⊥
@@ -118,5 +98,6 @@ pub some_cell : (field : Field) (text : List ℕ) (none : Type 0) (found : Optio
     → IsCellOf field v × (text ≡ cell_string field v)
 some_cell field text none found v is of_found =
     subst
-    (λ (o : Option Cell). MatchOption o none (λ (value : Cell). IsCellOf field value × (text ≡ cell_string field value)))
+    (λ (o : Option Cell).
+    MatchOption o none (λ (value : Cell). IsCellOf field value × (text ≡ cell_string field value)))
     is of_found

@@ -33,12 +33,13 @@ abbrev strings_on : List (List ℕ) → List Token
 strings_on strings = key (codes "row") ∷ begin_array ∷ (string_tokens strings ++ last_tokens)
 
 -- the parts, as they are read
-pub parts_read : (identity : List ℕ) (strings : List (List ℕ)) (given at after rest : List Token) (digits found : List ℕ)
-    (read : List (List ℕ)) → IsIdentity identity → AllByRecursion IsRowString strings
+pub parts_read : (identity : List ℕ) (strings : List (List ℕ)) (given at after rest : List Token)
+    (digits found : List ℕ) (read : List (List ℕ)) → IsIdentity identity → AllByRecursion IsRowString strings
     → given ≡ token_tokens identity strings → at ≡ drop 4 given → at ≡ string digits ∷ after
     → ((i : List ℕ) → IsIdentity i → digits ≡ encode_lower i → Some found ≡ Some i) → rest ≡ drop 2 after
     → read ≡ map chars (first_strings rest) → (found ≡ identity) × (read ≡ strings)
-parts_read identity strings given at after rest digits found read of_identity marked of_given of_at is tell of_rest of_read =
+parts_read identity strings given at after rest digits found read of_identity marked of_given of_at is tell of_rest
+    of_read =
     let here : string digits ∷ after ≡ string (encode_lower identity) ∷ strings_on strings =
     sym is ∙ of_at ∙ ap (drop 4) of_given in
     let digits_same : digits ≡ encode_lower identity = cc in
@@ -82,4 +83,5 @@ pub some_form : (bytes : List ℕ) (none : Type 0) (found : Option Parts) (parts
     → MatchOption found none (λ (p : Parts). HasTokenForm bytes p.identity p.strings)
     → HasTokenForm bytes parts.identity parts.strings
 some_form bytes none found parts is of_found =
-    subst (λ (o : Option Parts). MatchOption o none (λ (p : Parts). HasTokenForm bytes p.identity p.strings)) is of_found
+    subst (λ (o : Option Parts). MatchOption o none (λ (p : Parts). HasTokenForm bytes p.identity p.strings)) is
+    of_found

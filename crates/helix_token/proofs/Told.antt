@@ -16,7 +16,8 @@ use Rattle.helix_token.specs.Token.{HoldsText, token_of_strings}
 use Rattle.helix_token.proofs.TextTokens.{text_ends, text_tokens}
 
 -- the strings that are read
-pub strings_read : (strings : List (List ℕ)) → first_strings (string_tokens strings ++ last_tokens) ≡ map encode_utf8_all strings
+pub strings_read : (strings : List (List ℕ))
+    → first_strings (string_tokens strings ++ last_tokens) ≡ map encode_utf8_all strings
 strings_read [] = refl
 strings_read (text ∷ strings) = ap (λ l. encode_utf8_all text ∷ l) (strings_read strings)
 

@@ -11,7 +11,8 @@ pub enum TokenFault {
     /// The token is that of another profile, mode or set file: its identity, and the one that was wanted.
     #[error("the token is that of another profile")]
     OtherProfile { found: [u8; 32], wanted: [u8; 32] },
-    /// The least index, from 0, with a cell but no field, a field but no cell, or a text that is no cell's of the field.
+    /// The least index, from 0, with a cell but no field, a field but no cell, or a string that no cell of the field
+    /// has.
     #[error("cell {index} of the token is no cell of its field")]
     Cell { index: u64 },
     /// An allocation failed.

@@ -9,8 +9,8 @@ ghost use Rattle.helix_token.specs.Identity.{IsIdentity};
 ghost use Rattle.helix_token.specs.Token.{IsTokenOf, token_text};
 ghost use Rattle.helix_token.specs.declared.fault.TokenFault.{TokenFault as Fault};
 
-/// Of at most 64 fields, every row of cells of these fields has a token: no fault breaks its text for that identity, alone
-/// or with one line feed.
+/// Of at most 64 fields, every row of cells of these fields has a token: no fault breaks its text for that identity,
+/// alone or with one line feed.
 pub fn rows_have_tokens()
     ensures { (bytes identity : List ℕ) (fields : List Field) (row : List Cell) → IsIdentity identity
         → length fields ≤ 64 → IsTokenOf bytes identity fields row

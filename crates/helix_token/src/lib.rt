@@ -3,10 +3,11 @@
 //! ```text
 //! let wanted = identity(profile_bytes, b"mode full", files.as_slice());
 //! let token = write_token(alloc, &wanted, fields, &last_row)?;
-//!     // {"format":"helix-token-1","identity":"5d41..","row":["=TR000001","n"]}
+//!     // {"format":"helix-token-1","identity":"5d41...","row":["=TR000001","n"]}
 //! match read_token(alloc, bytes, &wanted, fields) {
-//!     Ok(row) => walk.seek_after(&row),
-//!     Err(TokenFault::Cell { index }) => ..
+//!     Ok(row) => ..,                                  // the cells of the last row
+//!     Err(TokenFault::Cell { index }) => ..,          // the cell of this index is none of its field
+//!     Err(fault) => ..,                               // Form, OtherProfile { found, wanted } or Memory
 //! }
 //! ```
 //!

@@ -31,19 +31,22 @@ fn check(
     Ok(())
 }
 
-// The digests are what `sha256sum` gives for the pieces, each after its length in eight bytes.
-#[test]
-fn identities_are_digests(rt: HostRuntime) -> Result<(), Fail> {
-    let none: &[&str] = &[];
-    let cases = [
+/// Profiles, modes and set files with their digests: what `sha256sum` gives for the pieces, each after its length in
+/// eight bytes.
+fn digests() -> [(
+    (&'static str, &'static str),
+    &'static [&'static str],
+    &'static str,
+); 7] {
+    [
         (
             ("", ""),
-            none,
+            &[],
             "374708fff7719dd5979ec875d56cd2286f6d3cf7ec317a3b25632aab28ec37bb",
         ),
         (
             ("abc", "mode full"),
-            none,
+            &[],
             "8dfd12e5d33c516398d8531e38ccee60a996bcf79779f3b23482d88a207d63ca",
         ),
         (
@@ -51,31 +54,35 @@ fn identities_are_digests(rt: HostRuntime) -> Result<(), Fail> {
                 "abcdbcdecdefdefgefghfghighijhijkijkljklmklmnlmnomnopnopq",
                 "mode violate 12",
             ),
-            ["", "abc"].as_slice(),
+            &["", "abc"],
             "f512f22b6dc3c748ad121f7df913064afce9e3f93deadafe126ccdcabbf4857c",
         ),
         (
             ("a", "bc"),
-            none,
+            &[],
             "3fafa1cf2f19a7c1129beb20cf0983f73a489a221fc0dd2f16d1be292d089205",
         ),
         (
             ("ab", "c"),
-            none,
+            &[],
             "601d5476e2ccfe2c87a2bba7a322659734a05749d5b5aa781f513e4912db0d5f",
         ),
         (
             ("abc", "mode full"),
-            ["a", "b"].as_slice(),
+            &["a", "b"],
             "ff48bb166cadd20592f485f6f12f3148b9e0f04e8686512496037c4244c4a110",
         ),
         (
             ("abc", "mode full"),
-            ["b", "a"].as_slice(),
+            &["b", "a"],
             "7b04c5330eae1903817daaaeb5aa983c9ca17f086fdc46105621c3d439214845",
         ),
-    ];
-    for (texts, files, digits) in cases {
+    ]
+}
+
+#[test]
+fn identities_are_digests(rt: HostRuntime) -> Result<(), Fail> {
+    for (texts, files, digits) in digests() {
         check(&rt, rt.alloc(), texts, files, digits)?;
     }
     Ok(())

@@ -17,8 +17,10 @@ const OTHER: [u8; 32] = [
 ];
 
 /// A token up to its strings.
-const HEAD: &str = "{\"format\":\"helix-token-1\",\"identity\":\
-    \"abababababababababababababababababababababababababababababababab\",\"row\":";
+fn head() -> &'static str {
+    "{\"format\":\"helix-token-1\",\"identity\":\
+     \"abababababababababababababababababababababababababababababababab\",\"row\":"
+}
 
 /// What a token gives: the cell of its row, or a fault of one kind.
 #[derive(Clone, Copy)]
@@ -45,10 +47,9 @@ fn gives(alloc: Global, bytes: &[u8], fields: &[Field], wanted: Wanted) -> bool 
     }
 }
 
-#[test]
-fn strings_have_cells_or_faults(rt: HostRuntime) -> Result<(), Fail> {
-    let fields = one_field(rt.alloc(), Kind::Boolean)?;
-    let cases = [
+/// What comes after the head, and what it gives.
+fn strings() -> [(&'static str, Wanted); 27] {
+    [
         ("[\"=true\"]}", Wanted::Cell(CellRef::Bool(true))),
         ("[\"=false\"]}\n", Wanted::Cell(CellRef::Bool(false))),
         ("[\"n\"]}", Wanted::Cell(CellRef::Null)),
@@ -76,9 +77,14 @@ fn strings_have_cells_or_faults(rt: HostRuntime) -> Result<(), Fail> {
         ("{\"=true\":\"n\"}}", Wanted::Form),
         ("\"=true\"}", Wanted::Form),
         ("1e999999999}", Wanted::Form),
-    ];
-    for (rest, wanted) in cases {
-        let text = format!(in rt.alloc(); "{HEAD}{rest}")?;
+    ]
+}
+
+#[test]
+fn strings_have_cells_or_faults(rt: HostRuntime) -> Result<(), Fail> {
+    let fields = one_field(rt.alloc(), Kind::Boolean)?;
+    for (rest, wanted) in strings() {
+        let text = format!(in rt.alloc(); "{}{rest}", head())?;
         assert!(rt;
             gives(rt.alloc(), text.as_bytes(), fields.as_slice(), wanted),
             "{rest}"
@@ -87,10 +93,9 @@ fn strings_have_cells_or_faults(rt: HostRuntime) -> Result<(), Fail> {
     Ok(())
 }
 
-#[test]
-fn tokens_are_told_from_others(rt: HostRuntime) -> Result<(), Fail> {
-    let fields = one_field(rt.alloc(), Kind::Boolean)?;
-    let cases = [
+/// Tokens that are not this run's, or none.
+fn others() -> [(&'static str, Wanted); 5] {
+    [
         (
             "{\"format\":\"helix-token-1\",\"identity\":\
             \"abababababababababababababababababababababababababababababababac\",\"row\":[\"=yes\"]}",
@@ -116,14 +121,19 @@ fn tokens_are_told_from_others(rt: HostRuntime) -> Result<(), Fail> {
             \"format\":\"helix-token-1\",\"row\":[\"=true\"]}",
             Wanted::Form,
         ),
-    ];
-    for (text, wanted) in cases {
+    ]
+}
+
+#[test]
+fn tokens_are_told_from_others(rt: HostRuntime) -> Result<(), Fail> {
+    let fields = one_field(rt.alloc(), Kind::Boolean)?;
+    for (text, wanted) in others() {
         assert!(rt;
             gives(rt.alloc(), text.as_bytes(), fields.as_slice(), wanted),
             "{text}"
         );
     }
-    let whole = format!(in rt.alloc(); "{HEAD}[\"=true\"]}}")?;
+    let whole = format!(in rt.alloc(); "{}[\"=true\"]}}", head())?;
     for len in 0..whole.len() {
         let cut = whole.as_bytes().get(..len).ok_or("cut")?;
         assert!(rt;
@@ -142,7 +152,7 @@ fn repeated(
     count: usize,
     end: &str,
 ) -> Result<Vec<u8>, Fail> {
-    let mut bytes = Vec::from_slice(alloc, HEAD.as_bytes())?;
+    let mut bytes = Vec::from_slice(alloc, head().as_bytes())?;
     bytes.extend_from_slice(begin.as_bytes())?;
     bytes.extend_from_slice(vec![in alloc; byte; count]?.as_slice())?;
     bytes.extend_from_slice(end.as_bytes())?;

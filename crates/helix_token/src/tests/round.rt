@@ -20,14 +20,17 @@ const LAST_DAY: i64 = 315_537_811_200_000;
 
 const TEXT: Kind = Kind::Text(Alphabet::Unicode);
 
-/// The bytes 0 to 31, and the token up to the strings.
+/// The bytes 0 to 30, and 255.
 const IDENTITY: [u8; 32] = [
     0, 1, 2, 3, 4, 5, 6, 7, 8, 9, 10, 11, 12, 13, 14, 15, 16, 17, 18, 19, 20, 21, 22, 23, 24, 25,
     26, 27, 28, 29, 30, 255,
 ];
 
-const HEAD: &str = "{\"format\":\"helix-token-1\",\"identity\":\
-    \"000102030405060708090a0b0c0d0e0f101112131415161718191a1b1c1d1eff\",\"row\":";
+/// The token with that identity, up to its strings.
+fn head() -> &'static str {
+    "{\"format\":\"helix-token-1\",\"identity\":\
+     \"000102030405060708090a0b0c0d0e0f101112131415161718191a1b1c1d1eff\",\"row\":"
+}
 
 /// One field of this kind that may be null.
 pub(super) fn one_field(alloc: Global, kind: Kind) -> Result<Fields, Fail> {
@@ -68,7 +71,7 @@ fn check(
 ) -> Result<(), Fail> {
     let fields = one_field(alloc, kind)?;
     let token = written(rt, alloc, fields.as_slice(), cell)?;
-    let want = format!(in alloc; "{HEAD}{strings}}}")?;
+    let want = format!(in alloc; "{}{strings}}}", head())?;
     assert!(rt; token.as_slice() == want.as_bytes(), "{strings}");
     match read_token(alloc, token.as_slice(), &IDENTITY, fields.as_slice()) {
         Ok(row) => match row.as_slice() {
@@ -80,18 +83,16 @@ fn check(
     Ok(())
 }
 
-#[test]
-fn values_are_read_back(rt: HostRuntime) -> Result<(), Fail> {
-    let marks = [
-        '"' as u32,
-        '\\' as u32,
-        '/' as u32,
-        'é' as u32,
-        '€' as u32,
-        '😀' as u32,
-    ];
-    let isin = ['U', 'S', '0', '3', '7', '8', '3', '3', '1', '0', '0', '5'].map(|c| c as u32);
-    let cases = [
+/// `n`, marks and characters of one to four bytes, and an ISIN.
+static N: [u32; 1] = [110];
+
+static MARKS: [u32; 6] = [34, 92, 47, 0xe9, 0x20ac, 0x1f600];
+
+static ISIN: [u32; 12] = [85, 83, 48, 51, 55, 56, 51, 51, 49, 48, 48, 53];
+
+/// Values at the ends of their universes, with the strings of their rows.
+fn values() -> [(Kind, CellRef<'static>, &'static str); 14] {
+    [
         (Kind::Boolean, CellRef::Null, "[\"n\"]"),
         (Kind::Boolean, CellRef::Bool(true), "[\"=true\"]"),
         (
@@ -127,15 +128,19 @@ fn values_are_read_back(rt: HostRuntime) -> Result<(), Fail> {
             "[\"=9999-12-31T23:59:59.999\"]",
         ),
         (TEXT, CellRef::Text(&[]), "[\"=\"]"),
-        (TEXT, CellRef::Text(['n' as u32].as_slice()), "[\"=n\"]"),
-        (TEXT, CellRef::Text(marks.as_slice()), "[\"=\\\"\\\\/é€😀\"]"),
+        (TEXT, CellRef::Text(&N), "[\"=n\"]"),
+        (TEXT, CellRef::Text(&MARKS), "[\"=\\\"\\\\/é€😀\"]"),
         (
             Kind::Code(Code::Isin),
-            CellRef::Text(isin.as_slice()),
+            CellRef::Text(&ISIN),
             "[\"=US0378331005\"]",
         ),
-    ];
-    for (kind, cell, strings) in cases {
+    ]
+}
+
+#[test]
+fn values_are_read_back(rt: HostRuntime) -> Result<(), Fail> {
+    for (kind, cell, strings) in values() {
         check(&rt, rt.alloc(), kind, cell, strings)?;
     }
     Ok(())

@@ -15,6 +15,7 @@ loop-i-preserved c =
 
 pub returns-then-strings-fields-clause-fault : goal.returns-then-strings-fields-clause-fault
 returns-then-strings-fields-clause-fault c = λ apart. record {
-  here = no_text c.args.fields.now c.args.strings.now (length c.args.strings.now) (omega arith) c.if-strings-fields.true;
+  here = no_text c.args.fields.now c.args.strings.now (length c.args.strings.now) (omega arith)
+      c.if-strings-fields.true;
   before = λ k below. c.loop-i.invariant.before k (omega (arith, c.loop-i-test.false));
 }
