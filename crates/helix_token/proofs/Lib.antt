@@ -1,0 +1,9 @@
+pub mod TextTokens
+pub mod Told
+pub mod CellTexts
+pub mod TextSizes
+pub mod RowStrings
+pub mod Faulty
+pub mod Faults
+pub mod Pieces
+pub mod ReadTokens
