@@ -1,0 +1,5 @@
+pub mod Joins
+pub mod Closed
+pub mod Added
+pub mod TreeSteps
+pub mod Told
