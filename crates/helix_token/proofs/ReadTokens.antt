@@ -1,6 +1,6 @@
 -- What a reader takes from the tokens of a token's text.
 use Rattle.std.proofs.Common.{◌≡◌, ℕ, Bool, true, false, List, [], ◌∷◌, ◌++◌, codes, drop, map, sym, ◌∙◌, ap, subst, refl}
-use Rattle.std.specs.Prelude.{Option, None, Some, MatchOption, IsSomeAnd, encode_utf8_all, ◌↔◌}
+use Rattle.std.specs.Prelude.{Option, None, Some, MatchOption, IsSomeAnd, ◌↔◌}
 use Rattle.std.specs.List.{AllByRecursion}
 use Rattle.std.specs.Str.{chars}
 use Rattle.std.proofs.lemmas.Bool.{false≢true}

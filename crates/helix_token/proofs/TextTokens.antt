@@ -1,5 +1,5 @@
 -- A token's text is what a writer of JSON gives for its tokens, and it is read back as those.
-use Rattle.std.proofs.Common.{◌≡◌, ℕ, Bool, true, false, fold, ltb-true, List, [], ◌∷◌, ◌++◌, codes, map, append_assoc, IsUtf8, refl, sym, ◌∙◌, ap}
+use Rattle.std.proofs.Common.{◌≡◌, ℕ, Bool, true, false, fold, ltb-true, List, [], ◌∷◌, ◌++◌, codes, append_assoc, IsUtf8, refl, sym, ◌∙◌, ap}
 use Rattle.std.specs.Prelude.{encode_utf8_all}
 use Rattle.std.specs.List.{AllByRecursion}
 use Rattle.std.proofs.lemmas.Str.{IsUtf8-append, IsUtf8-nil, IsUtf8-from_ascii}
@@ -8,7 +8,7 @@ use Rattle.std.proofs.lemmas.Bool.{and_parts}
 use Rattle.std.proofs.lemmas.Str.Ascii.{IsAscii-cons, IsAscii-nil}
 use Rattle.hex.specs.Hex.{encode_lower, lower_digits}
 use Rattle.hex.proofs.HexLemmas.{IsAscii-encode_with}
-use Rattle.json.specs.Token.{Token, begin_object, end_object, begin_array, end_array, key, string}
+use Rattle.json.specs.Token.{Token, end_object, end_array, string}
 use Rattle.json.specs.Lex.{tokens}
 use Rattle.json.specs.Print.{ArePrintable, ends, print, print_from, separator, token_text}
 use Rattle.json.specs.Tree.{json_tokens, items_tokens}

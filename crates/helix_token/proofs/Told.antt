@@ -1,17 +1,16 @@
 -- A token's text tells its identity and its strings.
-use Rattle.std.proofs.Common.{◌≡◌, ◌⊎◌, ℕ, List, [], ◌∷◌, ◌++◌, drop, map, inl, inr, refl, sym, ◌∙◌, ap, ap₂, append_assoc, subst}
-use Rattle.std.specs.Prelude.{encode_utf8_all, Ok}
+use Rattle.std.proofs.Common.{◌≡◌, ℕ, List, [], ◌∷◌, ◌++◌, drop, map, inl, inr, refl, sym, ◌∙◌, ap, ap₂, subst}
+use Rattle.std.specs.Prelude.{encode_utf8_all}
 use Rattle.std.specs.Str.{chars}
 use Rattle.std.specs.List.{AllByRecursion}
 use Rattle.std.proofs.lemmas.List.{append_cancel_right, same_from_push}
 use Rattle.std.proofs.lemmas.Str.{encodes_same, chars-encodes}
 use Rattle.hex.specs.Hex.{decode_of, encode_lower}
 use Rattle.hex.proofs.HexLemmas.{decode_of-encode_lower}
-use Rattle.json.specs.Token.{Token}
 use Rattle.json.specs.Lex.{tokens}
 use Rattle.helix_token.specs.Broken.{HasTokenForm, IsRowString}
 use Rattle.helix_token.specs.Identity.{IsIdentity}
-use Rattle.helix_token.specs.Inner.Strings.{first_strings, head_tokens, last_tokens, string_tokens, token_tokens}
+use Rattle.helix_token.specs.Inner.Strings.{first_strings, last_tokens, string_tokens, token_tokens}
 use Rattle.helix_token.specs.Token.{HoldsText, token_of_strings}
 use Rattle.helix_token.proofs.TextTokens.{text_ends, text_tokens}
 
