@@ -44,7 +44,7 @@ fn goes_on(arc: &Arc, code: u32) -> bool
 }
 
 /// The fork at a code, where the first of the arcs that reach it has been looked up.
-#[inline(never)]
+#[inline(always)]
 fn fork_after<L: Ledger>(
     words: &Words,
     arcs: &[Arc],
