@@ -1,5 +1,5 @@
 -- The fork at a code.
-use Rattle.std.proofs.Common.{◌≡◌, ◌<◌, ◌≤◌, ℕ, zero, suc, ◌+◌, true, Option, Some, None, IfSome, IfNone, List, length, drop, take, get_or, refl, sym, ◌∙◌, subst, arith, ◌-◌, length-drop}
+use Rattle.std.proofs.Common.{◌≡◌, ◌<◌, ◌≤◌, ℕ, zero, suc, ◌+◌, true, Option, Some, None, IfSome, IfNone, List, length, drop, take, get_or, refl, sym, subst, arith, ◌-◌, length-drop}
 use Rattle.std.proofs.lemmas.List.{take_all}
 use Rattle.helix_automata.specs.declared.arc.Arc.{Arc}
 use Rattle.helix_automata.specs.Automaton.{Automaton, holds}
@@ -11,7 +11,7 @@ use Rattle.helix_words.specs.Words.{WordSet}
 use Rattle.helix_words.specs.Inner.Reaching.{IsHeld, AreArcsTo, AreArcsOnFrom, GoesOn, IsLeastIn, IsFork}
 use Rattle.helix_words.specs.Inner.Rests.{HasRest, LeadsToRest, IsStepFrom}
 use Rattle.helix_words.proofs.Paths.{leads_once}
-use Rattle.helix_words.proofs.Stepping.{HoldsNone, Passed, passed_none, passed_dead, passed_empty, arcs_after}
+use Rattle.helix_words.proofs.Stepping.{HoldsNone, arcs_after}
 use Rattle.helix_words.proofs.StepAnswers.{arcs_begun, arc_found, arc_dead, arc_empty}
 
 character_low : (code : ℕ) → IsCharacter code → code ≤ 1114111
