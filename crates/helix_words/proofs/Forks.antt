@@ -1,21 +1,24 @@
 -- The fork at a code.
-use Rattle.std.proofs.Common.{◌≡◌, ◌<◌, ◌≤◌, ℕ, zero, suc, ◌+◌, true, Option, Some, None, IfSome, IfNone, List, length, drop, take, get_or, refl, sym, ◌∙◌, subst, arith, ◌-◌, length-drop}
+use Rattle.std.proofs.Common.{◌≡◌, ◌<◌, ◌≤◌, ℕ, zero, suc, ◌+◌, true, Option, Some, None, IfSome, IfNone, List, length, drop, take, get_or, refl, sym, subst, arith, ◌-◌, length-drop}
 use Rattle.std.proofs.lemmas.List.{take_all}
 use Rattle.helix_automata.specs.declared.arc.Arc.{Arc}
 use Rattle.helix_automata.specs.Automaton.{Automaton, holds}
 use Rattle.helix_automata.specs.Shape.{IsCharacter}
-use Rattle.helix_automata.proofs.Covering.{held}
+use Rattle.helix_automata.proofs.Covering.{held, held_within}
 use Rattle.helix_words.specs.declared.step.Step.{Step}
 use Rattle.helix_words.specs.declared.fork.Fork.{Fork}
 use Rattle.helix_words.specs.Words.{WordSet}
-use Rattle.helix_words.specs.Inner.Reaching.{IsHeld, AreArcsTo, AreArcsOnFrom, IsLeastIn, IsFork}
+use Rattle.helix_words.specs.Inner.Reaching.{IsHeld, AreArcsTo, AreArcsOnFrom, GoesOn, IsLeastIn, IsFork}
 use Rattle.helix_words.specs.Inner.Rests.{HasRest, LeadsToRest, IsStepFrom}
 use Rattle.helix_words.proofs.Paths.{leads_once}
-use Rattle.helix_words.proofs.Stepping.{HoldsNone, Passed, passed_none, passed_dead, passed_empty, arcs_after}
+use Rattle.helix_words.proofs.Stepping.{HoldsNone, arcs_after}
 use Rattle.helix_words.proofs.StepAnswers.{arcs_begun, arc_found, arc_dead, arc_empty}
 
 character_low : (code : ℕ) → IsCharacter code → code ≤ 1114111
 character_low code is = grind arith
+
+printable : (code : ℕ) → 0x20 ≤ code → code ≤ 0x7E → IsCharacter code
+printable code low high = grind arith
 
 -- the arcs after the first one
 pub later_are : (arcs : List Arc) → take (length arcs - 1) (drop 1 arcs) ≡ drop 1 arcs
@@ -128,6 +131,24 @@ module _ (words : WordSet) (state code rest : ℕ) (short : rest < words.longest
           (arcs_after words.automaton state (code + 1) rest arcs above
           (arc_empty words.automaton (code + 1) rest arcs 0 d within (arcs_begun words.automaton (code + 1) rest arcs) empty
           state above)))
+
+    -- the first arc holds the next code too
+    pub fork_goes_on : HasRest words.automaton (get_or arcs 0 d).to rest → GoesOn (get_or arcs 0 d) code
+        → IsFork words.automaton state code rest (record {
+          along = Some (get_or arcs 0 d).to;
+          above = Some (record { character = code + 1; to = (get_or arcs 0 d).to });
+        })
+    fork_goes_on has goes =
+        fork_here has (Some (get_or arcs 0 d).to) (
+          refl,
+          printable code goes.printable (omega (arith, goes.next_printable)),
+          held_within code (get_or arcs 0 d) goes.first_low (omega (arith, goes.last_high)),
+        ) tt (code + 1) (record {
+          is_character = printable (code + 1) (omega (arith, goes.printable)) (omega (arith, goes.next_printable));
+          reached = omega arith;
+          held = held_within (code + 1) (get_or arcs 0 d) (omega (arith, goes.first_low)) (omega (arith, goes.last_high));
+          least = λ other character high holding. high;
+        })
 
 -- what a fork says at each of its answers
 module _ (automaton : Automaton) (state code rest : ℕ) (fork : Fork) (is : IsFork automaton state code rest fork) where

@@ -1,19 +1,16 @@
 -- Steps among arcs, and the fork at a code.
-use Rattle.std.proofs.Common.{◌≡◌, ◌↔◌, ◌⊎◌, inl, inr, ℕ, zero, suc, ◌+◌, ◌-◌, ◌<◌, ◌≤◌, Bool, true, false, Option, Some, None, IfSome, IfNone, List, length, drop, get_or, refl, sym, ap, ◌∙◌, subst, arith, length-drop, IsTrue}
-use Rattle.std.proofs.lemmas.Bool.{false≢true, cases_lt}
+use Rattle.std.proofs.Common.{◌≡◌, inl, inr, ℕ, ◌+◌, ◌-◌, ◌<◌, ◌≤◌, true, Some, None, List, length, get_or, sym, ap, ◌∙◌, subst, arith, length-drop}
+use Rattle.std.proofs.lemmas.Bool.{cases_lt}
 use Rattle.std.proofs.lemmas.List.{get_or_default, get_or-drop, get_or-take, length-take-le}
-use Rattle.std.proofs.lemmas.List.Elements.{All-drop}
 use Rattle.helix_automata.specs.declared.arc.Arc.{Arc}
 use Rattle.helix_automata.specs.Automaton.{Automaton, holds}
-use Rattle.helix_automata.specs.Shape.{IsCharacter}
 use Rattle.helix_automata.proofs.Covering.{held}
 use Rattle.helix_words.specs.declared.step.Step.{Step}
 use Rattle.helix_words.specs.Words.{WordSet}
-use Rattle.helix_words.specs.Inner.Reaching.{AreReaching, IsHeld, AreArcsTo, AreArcsOnFrom, IsLeastIn, IsFork}
-use Rattle.helix_words.specs.Inner.Rests.{HasRest, LeadsToRest, IsStepFrom}
+use Rattle.helix_words.specs.Inner.Reaching.{AreReaching, IsHeld, AreArcsTo, AreArcsOnFrom, IsLeastIn}
+use Rattle.helix_words.specs.Inner.Rests.{HasRest, IsStepFrom}
 use Rattle.helix_words.specs.Inner.Tables.{IsArcFrom, AreArcsFrom}
-use Rattle.helix_words.proofs.Paths.{leads_once}
-use Rattle.helix_words.proofs.Stepping.{HoldsNone, Passed, passed_none, passed_dead, passed_empty, step_found, step_none, arcs_after}
+use Rattle.helix_words.proofs.Stepping.{HoldsNone, Passed, passed_none, passed_dead, passed_empty, step_found, step_none}
 
 -- the arcs of a state that reach a code
 module _ (words : WordSet) (state code : ℕ) (row reaching : List Arc)

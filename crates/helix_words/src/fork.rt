@@ -1,10 +1,12 @@
 //! The ways on at a place of a word, found in one scan of the arcs there.
 
-ghost use Rattle.std.specs.Prelude.{◌≡◌, ◌<◌, ◌≤◌, true, length, IfSome, IfNone};
+ghost use Rattle.std.specs.Prelude.{◌≡◌, ◌↔◌, ℕ, ◌-◌, ◌<◌, ◌≤◌, true, length, All, IfSome, IfNone, IsTrue};
+ghost use Rattle.std.specs.Bool.{OnTrue};
 ghost use Rattle.helix_automata.specs.Automaton.{holds, most_arcs};
 ghost use Rattle.helix_automata.specs.Shape.{IsCharacter};
 ghost use Rattle.helix_words.specs.Moves.{MovedAtMost};
-ghost use Rattle.helix_words.specs.Inner.Reaching.{IsFork};
+ghost use Rattle.helix_words.specs.Inner.Reaching.{first_of, GoesOn, AreArcsOnFrom, IsFork};
+ghost use Rattle.helix_words.specs.Inner.Rests.{HasRest};
 
 use crate::reach::{arcs_from, has_rest};
 use crate::step::{Step, character_in, is_character, step_among};
@@ -33,22 +35,34 @@ fn state_along(arc: &Arc, code: u32) -> Option<u32>
     }
 }
 
-/// Where a character leads from a state to one with a rest of some length, and the least step above it.
+/// Whether an arc holds a code and the next one, and both are printable ASCII: so it is at most places of a text.
 #[inline(always)]
-pub fn fork_at<L: Ledger>(
+fn goes_on(arc: &Arc, code: u32) -> bool
+    ensures { OnTrue result (GoesOn arc.now code) }
+{
+    arc.first <= code && code < arc.last && 0x20 <= code && code < 0x7E
+}
+
+/// The fork at a code, where the first of the arcs that reach it has been looked up.
+#[inline(always)]
+fn fork_after<L: Ledger>(
     words: &Words,
-    state: u32,
+    arcs: &[Arc],
+    fits: bool,
     code: u32,
     rest: u32,
     steps: &mut Steps<L>,
 ) -> Fork
-    requires state { state < length words.now.automaton.moves }
+    requires some { 0 < length arcs.now }
+    requires within { All (λ arc. arc.to < length words.now.automaton.moves) arcs.now }
     requires rest { rest < words.now.longest }
-    ensures fork { IsFork words.now.automaton state code rest result }
-    ensures moves { MovedAtMost L.IsNoted (most_arcs words.now.automaton) steps.old steps.new }
+    requires reaches { code ≤ (first_of arcs.now).last }
+    requires fits { IsTrue fits ↔ HasRest words.now.automaton (first_of arcs.now).to rest }
+    ensures fork { (state : ℕ) → AreArcsOnFrom words.now state code arcs.now
+        → IsFork words.now.automaton state code rest result }
+    ensures moves { MovedAtMost L.IsNoted (length arcs.now - 1) steps.old steps.new }
 {
-    let arcs = arcs_from(words, state, code);
-    if arcs.is_empty() || code == u32::MAX {
+    if code == u32::MAX {
         return Fork {
             along: None,
             above: None,
@@ -56,8 +70,7 @@ pub fn fork_at<L: Ledger>(
     }
     let arc = arcs[0];
     let later = &arcs[1..];
-    steps.tick(Unit::Move);
-    if !has_rest(words, arc.to, rest) {
+    if !fits {
         return Fork {
             along: None,
             above: step_among(words, later, code + 1, rest, steps),
@@ -77,4 +90,40 @@ pub fn fork_at<L: Ledger>(
             above: step_among(words, later, code + 1, rest, steps),
         },
     }
+}
+
+/// Where a character leads from a state to one with a rest of some length, and the least step above it.
+#[inline(always)]
+pub fn fork_at<L: Ledger>(
+    words: &Words,
+    state: u32,
+    code: u32,
+    rest: u32,
+    steps: &mut Steps<L>,
+) -> Fork
+    requires state { state < length words.now.automaton.moves }
+    requires rest { rest < words.now.longest }
+    ensures fork { IsFork words.now.automaton state code rest result }
+    ensures moves { MovedAtMost L.IsNoted (most_arcs words.now.automaton) steps.old steps.new }
+{
+    let arcs = arcs_from(words, state, code);
+    if arcs.is_empty() {
+        return Fork {
+            along: None,
+            above: None,
+        };
+    }
+    let arc = arcs[0];
+    steps.tick(Unit::Move);
+    let fits = has_rest(words, arc.to, rest);
+    if fits && goes_on(&arc, code) {
+        return Fork {
+            along: Some(arc.to),
+            above: Some(Step {
+                character: code + 1,
+                to: arc.to,
+            }),
+        };
+    }
+    fork_after(words, arcs, fits, code, rest, steps)
 }

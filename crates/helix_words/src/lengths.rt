@@ -1,6 +1,6 @@
 //! The lengths of words.
 
-ghost use Rattle.std.specs.Prelude.{◌≡◌, ◌<◌, ◌≤◌, ◌/◌, ◌↔◌, length, IfOk, IfSome, IfNone, All, IsTrue};
+ghost use Rattle.std.specs.Prelude.{◌<◌, ◌≤◌, ◌/◌, ◌↔◌, length, IfOk, IfSome, IfNone, All, IsTrue};
 ghost use Rattle.std.specs.List.{Contains};
 ghost use Rattle.std.specs.List.Sorted.{IsStrictlyIncreasing};
 ghost use Rattle.helix_words.specs.Inner.Lengths.{IsAllowed, AreLengths, IsLeastOf};

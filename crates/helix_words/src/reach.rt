@@ -1,6 +1,6 @@
 //! The arcs of a state, and the rests to which they lead.
 
-ghost use Rattle.std.specs.Prelude.{◌≡◌, ◌<◌, ◌≤◌, ◌↔◌, length, IsTrue};
+ghost use Rattle.std.specs.Prelude.{◌<◌, ◌≤◌, ◌↔◌, length, IsTrue};
 ghost use Rattle.helix_words.specs.Inner.Reaching.{AreReaching, AreArcsOnFrom};
 ghost use Rattle.helix_words.specs.Inner.Rests.{HasRest};
 

@@ -1,6 +1,6 @@
 //! Questions whose answers go into trails.
 
-ghost use Rattle.std.specs.Prelude.{◌≡◌, ◌+◌, ◌*◌, ◌<◌, ◌≤◌, length, All};
+ghost use Rattle.std.specs.Prelude.{◌*◌, ◌<◌, ◌≤◌, length, All};
 ghost use Rattle.helix_automata.specs.Shape.{IsCharacter};
 ghost use Rattle.helix_automata.specs.Automaton.{most_arcs};
 ghost use Rattle.helix_words.specs.Words.{HasRoomFor};

@@ -36,6 +36,17 @@ pub record AreArcsOnFrom (words : WordSet) (state code : ℕ) (arcs : List Arc) 
   pub few : length arcs ≤ most_arcs words.automaton
   pub reaches : (d : Arc) → 0 < length arcs → code ≤ (get_or arcs 0 d).last
 
+-- the first of some arcs
+abbrev pub first_of : List Arc → Arc
+first_of arcs = get_or arcs 0 (record { first = 0; last = 0; to = 0 })
+
+-- the arc holds a code and the next one, and both are printable ASCII
+pub record GoesOn (arc : Arc) (code : ℕ) : Type 0 where
+  pub first_low : arc.first ≤ code
+  pub last_high : code < arc.last
+  pub printable : 0x20 ≤ code
+  pub next_printable : code < 0x7E
+
 -- the least character from a code on that the arc holds
 pub record IsLeastIn (arc : Arc) (from character : ℕ) : Type 0 where
   pub is_character : IsCharacter character
