@@ -33,9 +33,9 @@ module _ (nullable : List Bool) where
   went_on all branch popped new demand others more alive keeps literals demands lives goes =
       let one = taken branch popped demand others literals demands in
       let goes_on = subst (λ b. GoesOn (with_demand nullable demand popped others) (with_branch nullable b new more))
-          lives goes in
+      lives goes in
       let went = subst (λ found. GoesOn found (both (found_by nullable new) (found_by_all nullable more))) (sym one)
-          goes_on in
+      goes_on in
       record { same = went.same ∙ keeps.same; no_more = omega (arith, went.fewer, keeps.no_more) }
 
   pub took_a_step : (branch popped new : Branch) (demand : Demand) (others more : List Branch) (alive : Bool)
@@ -45,7 +45,7 @@ module _ (nullable : List Bool) where
       < (both (found_by nullable branch) (found_by_all nullable others)).steps
   took_a_step branch popped new demand others more alive literals demands lives goes =
       let goes_on = subst (λ b. GoesOn (with_demand nullable demand popped others) (with_branch nullable b new more))
-          lives goes in
+      lives goes in
       (subst (λ found. GoesOn found (both (found_by nullable new) (found_by_all nullable more)))
       (sym (taken branch popped demand others literals demands)) goes_on).fewer
 
@@ -57,7 +57,7 @@ module _ (nullable : List Bool) where
   came_to_an_end all branch popped new demand others more alive keeps literals demands dead goes =
       let one = taken branch popped demand others literals demands in
       let ends = subst (λ b. GoesOn (with_demand nullable demand popped others) (with_branch nullable b new more))
-          dead goes in
+      dead goes in
       let went = subst (λ found. GoesOn found (found_by_all nullable more)) (sym one) ends in
       (sym (went.same ∙ keeps.same), omega (arith, went.fewer, keeps.no_more))
 
@@ -80,6 +80,7 @@ last_apart branches last some is =
   where
     whole : length branches ≡ length branches - 1 + 1
     whole = omega (arith, some)
+
     within : length branches - 1 < length branches
     within = omega (arith, some)
 

@@ -84,6 +84,7 @@ module _ (nullable : List Bool) where
     where
       first : (n m x : ℕ) → n ≤ m → n ≤ (1 + x) * m
       first n m x le = omega arith
+
       third : (n m x : ℕ) → n ≤ m → n ≤ (3 + x) * m
       third n m x le = omega arith
 
@@ -94,6 +95,7 @@ module _ (nullable : List Bool) where
     where
       first : (w n m r : ℕ) → n ≤ r * m → n ≤ (w + 1 * r) * m
       first w n m r le = omega arith
+
       third : (w n m r : ℕ) → n ≤ r * m → n ≤ (w + 3 * r) * m
       third w n m r le = omega arith
 
@@ -108,7 +110,7 @@ module _ (nullable : List Bool) where
   at_least_one literal literals m rest bounds = ⊎_elim
       (λ one. subst (λ v. AtMost (v * m) (one_step (rest literals))) (sym one) (one_times _ m (bounds literals)))
       (λ three. subst (λ v. AtMost (v * m) (one_step (rest literals))) (sym three)
-          (tripled _ m (bounds literals)))
+      (tripled _ m (bounds literals)))
       (one_or_three literal)
     where
       tripled : (n m : ℕ) → n ≤ m → n ≤ 3 * m

@@ -189,10 +189,14 @@ module _ (profile : Content) (part : Partition) where
         by_case None is others = subst (AllByRecursion Good)
             (ap (λ found. cons_option found (filter_map (slice_get profile.constraints) numbers)) (sym is)) others
         by_case (Some c) is others = subst (AllByRecursion Good)
-            (ap (λ found. cons_option found (filter_map (slice_get profile.constraints) numbers)) (sym is))
-            ((got (IsConstraintFor profile.fields) profile.constraints number c valid.constraints_fit is,
-            named (Contains part.fields) (fields_of c) (λ field names. own.own_fields number field c
-            (among number (0, omega arith, refl)) is names)), others)
+            (ap (λ found. cons_option found (filter_map (slice_get profile.constraints) numbers)) (sym is)) (
+              (
+                got (IsConstraintFor profile.fields) profile.constraints number c valid.constraints_fit is,
+                named (Contains part.fields) (fields_of c) (λ field names. own.own_fields number field c
+                    (among number (0, omega arith, refl)) is names),
+              ),
+              others,
+            )
 
     demands_valid : (constraints : List Constraint) → AllByRecursion Good constraints
         → AllByRecursion (λ demand. TreeValid profile.fields part.fields demand.tree) (first_demands constraints)
@@ -218,6 +222,9 @@ module _ (profile : Content) (part : Partition) where
         demands_are result answer = if_ok _ P result
         (λ paths is. subst P (sym (is ∙ (λ i. paths_left
         ((nullable_is ∙ ap nullable_of fields_are) i)
-        (record { literals = []; demands = (demands_are
-        ∙ (λ j. first_demands (filter_map (slice_get (constraints_are j)) (numbers_are j)))) i } ∷ [])))) holds)
+        (record {
+          literals = [];
+          demands = (demands_are
+              ∙ (λ j. first_demands (filter_map (slice_get (constraints_are j)) (numbers_are j)))) i;
+        } ∷ [])))) holds)
         answer

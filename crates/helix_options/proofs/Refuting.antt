@@ -54,9 +54,9 @@ module _ (row : List Cell) (field : ℕ) where
   some_asks asks b each [] asked holds = absurd (false≢true asked)
   some_asks asks b each (l ∷ literals) asked holds = ⊎_elim
       (λ first. each l first (decided-true (dec_literal l row)
-          (and-left (literal_true row l) (path_true row literals) holds)))
+      (and-left (literal_true row l) (path_true row literals) holds)))
       (λ others. some_asks asks b each literals others
-          (and-right (literal_true row l) (path_true row literals) holds))
+      (and-right (literal_true row l) (path_true row literals) holds))
       (either-true (asks l) (list_any asks literals) asked)
 
 module _ (nullable : List Bool) (row : List Cell) (fits : Fits nullable row) where
@@ -115,7 +115,7 @@ standing_says nullable row fits literal sign literals = says_of
     (is_refuted nullable (signed literal (not sign)) literals) (is_refuted nullable (signed literal sign) literals)
     (path_true row literals) (tree_true row (Lit literal) sign)
     (λ other holds. sym (not-not (tree_true row (Lit literal) sign))
-        ∙ ap not (sym (negation-true row (Lit literal) sign) ∙ (sym (signed-true row literal (not sign))
-        ∙ refuted-false nullable row fits (signed literal (not sign)) literals other holds)))
+    ∙ ap not (sym (negation-true row (Lit literal) sign) ∙ (sym (signed-true row literal (not sign))
+    ∙ refuted-false nullable row fits (signed literal (not sign)) literals other holds)))
     (λ own holds. sym (signed-true row literal sign)
-        ∙ refuted-false nullable row fits (signed literal sign) literals own holds)
+    ∙ refuted-false nullable row fits (signed literal sign) literals own holds)

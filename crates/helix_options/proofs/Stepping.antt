@@ -65,7 +65,7 @@ stepped old new others is = record {
 pub each_goes_on : (nullable : List Bool) (tree : Tree) (sign : Bool) (parts : List Tree) (part_sign : Bool)
     (old new : Branch) (others : List Branch)
     → ((literals : List Literal) (rest : List Literal → Found)
-      → one_step (each_of nullable parts part_sign literals rest) ≡ search nullable tree sign literals rest)
+    → one_step (each_of nullable parts part_sign literals rest) ≡ search nullable tree sign literals rest)
     → new.literals ≡ old.literals → new.demands ≡ old.demands ++ demands_for parts part_sign
     → GoesOn (with_demand nullable (record { tree = tree; sign = sign }) old others)
     (with_branch nullable true new others)
@@ -135,7 +135,7 @@ module _ (nullable : List Bool) (branch : Branch) (others : List Branch) where
   pub relation_split : (relation : Relation) (sign : Bool) (new : Branch) (all : List Branch)
       → new ≡ demanding branch (that_holds (Null relation.left) ∷ [])
       → all ≡ others ++ (demanding branch (that_holds (Joined relation sign true) ∷ [])
-        ∷ demanding branch (that_holds (NotNull relation.left) ∷ that_holds (Null relation.right) ∷ []) ∷ [])
+      ∷ demanding branch (that_holds (NotNull relation.left) ∷ that_holds (Null relation.right) ∷ []) ∷ [])
       → GoesOn (both (with_open nullable (Joined relation sign false) branch.literals rest)
       (found_by_all nullable others)) (with_branch nullable true new all)
   relation_split relation sign new all new_is all_is = known
@@ -145,7 +145,7 @@ module _ (nullable : List Bool) (branch : Branch) (others : List Branch) where
       ((λ i. both (found_by nullable (new_is i)) (found_by_all nullable (all_is i)))
       ∙ (λ i. both (more_demands (that_holds (Null relation.left) ∷ []) i)
       ((found_by_all-append nullable others (demanding branch (that_holds (Joined relation sign true) ∷ [])
-        ∷ demanding branch (that_holds (NotNull relation.left) ∷ that_holds (Null relation.right) ∷ []) ∷ [])
+      ∷ demanding branch (that_holds (NotNull relation.left) ∷ that_holds (Null relation.right) ∷ []) ∷ [])
       ∙ (λ j. both (both (nothing-both
       (more_demands (that_holds (NotNull relation.left) ∷ that_holds (Null relation.right) ∷ []) j) j)
       (more_demands (that_holds (Joined relation sign true) ∷ []) j)) (found_by_all nullable others))) i))

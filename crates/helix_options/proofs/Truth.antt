@@ -147,8 +147,10 @@ mutual
   each-true row (more_of-Tree part parts) =
       let first = tree-true row part in
       let others = each-true row parts in (
-        (λ e. (first.0 (and-left (tree_true row part true) (each_true row parts true) e),
-            others.0 (and-right (tree_true row part true) (each_true row parts true) e))),
+        (λ e. (
+          first.0 (and-left (tree_true row part true) (each_true row parts true) e),
+          others.0 (and-right (tree_true row part true) (each_true row parts true) e),
+        )),
         (λ h. both-true (tree_true row part true) (each_true row parts true) (first.1 h.0) (others.1 h.1)),
       )
 
@@ -168,8 +170,10 @@ pub path-true : (row : List Cell) (path : List Literal) → (path_true row path 
 path-true row [] = ((λ e. tt), (λ h. refl))
 path-true row (literal ∷ literals) =
     let others = path-true row literals in (
-      (λ e. (decided-true (dec_literal literal row) (and-left (literal_true row literal) (path_true row literals) e),
-          others.0 (and-right (literal_true row literal) (path_true row literals) e))),
+      (λ e. (
+        decided-true (dec_literal literal row) (and-left (literal_true row literal) (path_true row literals) e),
+        others.0 (and-right (literal_true row literal) (path_true row literals) e),
+      )),
       (λ h. both-true (literal_true row literal) (path_true row literals)
           (true-decided (dec_literal literal row) h.0) (others.1 h.1)),
     )

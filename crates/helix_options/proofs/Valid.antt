@@ -212,9 +212,11 @@ module _ (fields : List Field) (part : List ℕ) where
         let unmet = joined-valid (signed_trees condition false) (parts-valid condition false valid.0 owns.0) in
         let then = joined-valid (signed_trees consequent true) (parts-valid consequent true valid.1 ends.0) in
         Any-valid (All (joined_tree (signed_trees condition true) ∷ joined_tree (signed_trees consequent true) ∷ [])
-        ∷ joined_tree (signed_trees condition false) ∷ [])
-        (All-valid (joined_tree (signed_trees condition true) ∷ joined_tree (signed_trees consequent true) ∷ [])
-        (met, (then, tt)), (unmet, tt))
+        ∷ joined_tree (signed_trees condition false) ∷ []) (
+          All-valid (joined_tree (signed_trees condition true) ∷ joined_tree (signed_trees consequent true) ∷ [])
+              (met, (then, tt)),
+          (unmet, tt),
+        )
     tree-valid (If' pointer condition other_pointer consequent None') false valid own =
         let owns = all-parts (Contains part) (fields_of_parts condition) (fields_of_parts consequent ++ []) own in
         let ends = all-parts (Contains part) (fields_of_parts consequent) [] owns.1 in
@@ -224,18 +226,22 @@ module _ (fields : List Field) (part : List ℕ) where
         (met, (then, tt))
     tree-valid (If' pointer condition other_pointer consequent (Some' else_pointer other)) sign valid own =
         let owns = all-parts (Contains part) (fields_of_parts condition)
-            (fields_of_parts consequent ++ fields_of_parts other) own in
+        (fields_of_parts consequent ++ fields_of_parts other) own in
         let ends = all-parts (Contains part) (fields_of_parts consequent) (fields_of_parts other) owns.1 in
         let met = joined-valid (signed_trees condition true) (parts-valid condition true valid.0 owns.0) in
         let unmet = joined-valid (signed_trees condition false) (parts-valid condition false valid.0 owns.0) in
         let then = joined-valid (signed_trees consequent sign) (parts-valid consequent sign valid.1 ends.0) in
         let otherwise = joined-valid (signed_trees other sign) (parts-valid other sign valid.2 ends.1) in
         Any-valid (All (joined_tree (signed_trees condition true) ∷ joined_tree (signed_trees consequent sign) ∷ [])
-        ∷ All (joined_tree (signed_trees condition false) ∷ joined_tree (signed_trees other sign) ∷ []) ∷ [])
-        (All-valid (joined_tree (signed_trees condition true) ∷ joined_tree (signed_trees consequent sign) ∷ [])
-        (met, (then, tt)),
-        (All-valid (joined_tree (signed_trees condition false) ∷ joined_tree (signed_trees other sign) ∷ [])
-        (unmet, (otherwise, tt)), tt))
+        ∷ All (joined_tree (signed_trees condition false) ∷ joined_tree (signed_trees other sign) ∷ []) ∷ []) (
+          All-valid (joined_tree (signed_trees condition true) ∷ joined_tree (signed_trees consequent sign) ∷ [])
+              (met, (then, tt)),
+          (
+            All-valid (joined_tree (signed_trees condition false) ∷ joined_tree (signed_trees other sign) ∷ [])
+                (unmet, (otherwise, tt)),
+            tt,
+          ),
+        )
 
     parts-valid : {m : _} (parts : Row_of-Constraint m) (sign : Bool) → ArePartsFor fields parts
         → Own (fields_of_parts parts) → AllByRecursion TreeValid (signed_trees parts sign)

@@ -25,7 +25,10 @@ pub fn descend(alloc: Global, nullable: &[bool], mut branch: Branch) -> Result<D
             return Ok(Descent { path: None, others });
         }
     }
-    let Branch { literals, demands: _ } = branch;
+    let Branch {
+        literals,
+        demands: _,
+    } = branch;
     Ok(Descent {
         path: Some(literals),
         others,

@@ -11,15 +11,32 @@ type Case = ([bool; 3], &'static [Step], usize);
 
 const CASES: [Case; 12] = [
     ([true, true, true], &[], 1),
-    ([true, true, true], &[Step::Equal(0, 1), Step::Equal(1, 1), Step::AnyOf], 2),
-    ([false, true, true], &[Step::Equal(0, 1), Step::Equal(1, 1), Step::If], 3),
+    (
+        [true, true, true],
+        &[Step::Equal(0, 1), Step::Equal(1, 1), Step::AnyOf],
+        2,
+    ),
+    (
+        [false, true, true],
+        &[Step::Equal(0, 1), Step::Equal(1, 1), Step::If],
+        3,
+    ),
     ([true, true, true], &[Step::Less(0, 1)], 3),
     ([false, true, true], &[Step::Less(0, 1)], 2),
     ([false, false, true], &[Step::Less(0, 1), Step::Not], 1),
-    ([true, true, true], &[Step::Null(0, true), Step::Less(0, 1), Step::AnyOf], 3),
     (
         [true, true, true],
-        &[Step::Equal(0, 1), Step::Equal(1, 1), Step::Equal(2, 1), Step::IfElse],
+        &[Step::Null(0, true), Step::Less(0, 1), Step::AnyOf],
+        3,
+    ),
+    (
+        [true, true, true],
+        &[
+            Step::Equal(0, 1),
+            Step::Equal(1, 1),
+            Step::Equal(2, 1),
+            Step::IfElse,
+        ],
         3,
     ),
     (
@@ -29,7 +46,12 @@ const CASES: [Case; 12] = [
     ),
     (
         [true, true, true],
-        &[Step::Null(0, true), Step::Null(1, true), Step::AnyOf, Step::Null(0, false)],
+        &[
+            Step::Null(0, true),
+            Step::Null(1, true),
+            Step::AnyOf,
+            Step::Null(0, false),
+        ],
         1,
     ),
     ([false, true, true], &[Step::Null(0, true)], 0),

@@ -67,7 +67,10 @@ fn atom(field: u32, test: Test) -> Constraint {
 fn made_by(alloc: Global, made: &mut Vec<Constraint>, step: Step) -> Result<Constraint, Memory> {
     match step {
         Step::Null(field, wanted) => Ok(atom(field, Test::IsNull(wanted))),
-        Step::Equal(field, number) => Ok(atom(field, Test::EqualTo(Cell::Number(i128::from(number))))),
+        Step::Equal(field, number) => Ok(atom(
+            field,
+            Test::EqualTo(Cell::Number(i128::from(number))),
+        )),
         Step::Less(left, right) => Ok(Constraint::Related(Relation {
             left,
             compare: Compare::Below,

@@ -16,15 +16,15 @@ returns-in_ok-push-in-Refuted c = part_refuted c.args.nullable.now c.args.branch
     (λ i. record {
       literals = c.args.branch.now.literals;
       demands = (c.in_ok-push-in-Refuted.ensures.ok
-        ∙ ap (λ demand. c.args.branch.now.demands ++ demand ∷ []) c.some_of.ensures) i;
+          ∙ ap (λ demand. c.args.branch.now.demands ++ demand ∷ []) c.some_of.ensures) i;
     })
 
 pub returns-in_ok-push-in-Open-2 : goal.returns-in_ok-push-in-Open-2
 returns-in_ok-push-in-Open-2 c =
     let apart = head_apart c.args.parts c.remove-tree.result c.remove-tree.new.self c.remove-tree.ensures.item
-        c.remove-tree.ensures.rest in
+    c.remove-tree.ensures.rest in
     let stands = stands_at c.args.nullable.now c.remove-tree.result c.args.sign c.args.branch.now.literals
-        c.as_slice.result.now Open c.as_slice.ensures c.in-Open.ensures in
+    c.as_slice.result.now Open c.as_slice.ensures c.in-Open.ensures in
     elim c.if-not-is_empty.branch [
       | then-not-is_empty+in_ok-other-in-Open+in_ok-push-in-Open w ↦ first_part c.args.nullable.now c.args.branch.now
           c.args.others.now.items c.args.parts c.remove-tree.result c.remove-tree.new.self c.args.sign _ _ apart stands

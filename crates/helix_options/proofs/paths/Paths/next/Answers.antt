@@ -5,9 +5,9 @@ use Rattle.helix_options.proofs.paths.Paths.next.Goals as goal
 pub returns-in-Some : goal.returns-in-Some
 returns-in-Some c =
     let whole : vec_len c.loop-alloc.self-inside.branches ≡ length c.loop-alloc.self-inside.branches.items =
-        omega arith in
+    omega arith in
     let some : 1 ≤ length c.loop-alloc.self-inside.branches.items = nonempty _ _ c.is_empty.result c.is_empty.ensures
-        c.loop-alloc-test.true whole in
+    c.loop-alloc-test.true whole in
     let index : c.len-last.result - 1 ≡ length c.loop-alloc.self-inside.branches.items - 1 = omega arith in
     sym c.self.view_is ∙ (sym c.loop-alloc.invariant
     ∙ first_taken c.loop-alloc.self-inside.nullable c.loop-alloc.self-inside.branches.items
@@ -20,9 +20,9 @@ returns-in-Some c =
 pub loop-alloc-smaller : goal.loop-alloc-smaller
 loop-alloc-smaller c =
     let whole : vec_len c.loop-alloc.self-inside.branches ≡ length c.loop-alloc.self-inside.branches.items =
-        omega arith in
+    omega arith in
     let some : 1 ≤ length c.loop-alloc.self-inside.branches.items = nonempty _ _ c.is_empty.result c.is_empty.ensures
-        c.loop-alloc-test.true whole in
+    c.loop-alloc-test.true whole in
     let index : c.len-last.result - 1 ≡ length c.loop-alloc.self-inside.branches.items - 1 = omega arith in
     less_left c.loop-alloc.self-inside.nullable c.loop-alloc.self-inside.branches.items
     c.replace_last.new.branches.items c.in_ok-branch.branch c.in_ok-path.field-0.others.items some
@@ -34,9 +34,9 @@ loop-alloc-smaller c =
 pub loop-alloc-preserved : goal.loop-alloc-preserved
 loop-alloc-preserved c =
     let whole : vec_len c.loop-alloc.self-inside.branches ≡ length c.loop-alloc.self-inside.branches.items =
-        omega arith in
+    omega arith in
     let some : 1 ≤ length c.loop-alloc.self-inside.branches.items = nonempty _ _ c.is_empty.result c.is_empty.ensures
-        c.loop-alloc-test.true whole in
+    c.loop-alloc-test.true whole in
     let index : c.len-last.result - 1 ≡ length c.loop-alloc.self-inside.branches.items - 1 = omega arith in
     none_taken c.loop-alloc.self-inside.nullable c.loop-alloc.self-inside.branches.items
     c.replace_last.new.branches.items c.in_ok-branch.branch c.in_ok-path.field-0.others.items some
