@@ -33,6 +33,3 @@ mod standing;
 
 pub use branch::Path;
 pub use paths::Paths;
-
-#[cfg(test)]
-mod tests;
