@@ -1,0 +1,11 @@
+pub mod Searching
+pub mod Truth
+pub mod Refuting
+pub mod Exactness
+pub mod Options
+pub mod Fewness
+pub mod Valid
+pub mod Opening
+pub mod Stepping
+pub mod Descending
+pub mod Judging

@@ -1,0 +1,255 @@
+-- One step of a branch finds the same paths, in fewer steps.
+use Rattle.std.proofs.Common.{◌≡◌, ℕ, ◌+◌, ◌<◌, Bool, true, false, not, if◌then◌else◌, Option, None, Some, List, [], ◌∷◌, ◌++◌, Result, Ok, Err, IfOk, refl, sym, ap, subst, ◌∙◌, arith, append_assoc}
+use Rattle.std.proofs.lemmas.List.{append-nil}
+use Rattle.std.proofs.Math.Path.{fun_ext}
+use Rattle.helix_base.specs.declared.memory.Memory.{Memory}
+use Rattle.helix_profile.specs.declared.relation.Relation.{Relation}
+use Rattle.helix_tree.specs.declared.literal.Literal.{Literal}
+use Rattle.helix_tree.specs.declared.literal.Literal.TheVariants.{Null, NotNull, Plain, Joined}
+use Rattle.helix_tree.specs.declared.tree.Tree.{Tree, Lit}
+use Rattle.helix_tree.specs.declared.tree.Tree.TheViews.{All, Any}
+use Rattle.helix_options.proofs.Searching.{search-All-plus, search-All-minus, search-Any-plus, search-Any-minus, search_all-append, found_by_all-append, both_assoc, both-nothing, nothing-both}
+use Rattle.helix_options.specs.Inner.Literals.{signed, standing_of}
+use Rattle.helix_options.specs.Inner.Search.{Found, nothing, one_path, both, one_step, by_standing, with_relation, with_open, tree_standing, search, each_of, one_of, search_all, found_by, found_by_all, GoesOn, with_branch, with_demand, that_holds, demanding, demands_for}
+use Rattle.helix_options.specs.declared.branch.Branch.{Branch}
+use Rattle.helix_options.specs.declared.branch.Demand.{Demand}
+use Rattle.helix_options.specs.declared.standing.Standing.{Standing}
+use Rattle.helix_options.specs.declared.standing.Standing.TheVariants.{Implied, Refuted, Open}
+
+-- demands for the parts of a list, in the order in which code makes them
+pub demands_for-append : (parts : List Tree) (part : Tree) (sign : Bool)
+    → demands_for (parts ++ part ∷ []) sign ≡ record { tree = part; sign = sign } ∷ demands_for parts sign
+demands_for-append [] part sign = refl
+demands_for-append (first ∷ parts) part sign =
+    ap (λ demands. demands ++ record { tree = first; sign = sign } ∷ []) (demands_for-append parts part sign)
+
+each_demand : (nullable : List Bool) (parts : List Tree) (sign : Bool) (rest : List Literal → Found)
+    (literals : List Literal)
+    → search_all nullable (demands_for parts sign) rest literals ≡ each_of nullable parts sign literals rest
+each_demand nullable [] sign rest literals = refl
+each_demand nullable (part ∷ parts) sign rest literals =
+    search_all-append nullable (demands_for parts sign) (record { tree = part; sign = sign } ∷ []) rest literals
+    ∙ ap (search nullable part sign literals) (fun_ext (λ more. each_demand nullable parts sign rest more))
+
+-- a part that is taken from the end of a list
+pub part_demanded : (demands new : List Demand) (parts rest : List Tree) (part : Tree) (sign : Bool)
+    → parts ≡ rest ++ part ∷ [] → new ≡ demands ++ record { tree = part; sign = sign } ∷ []
+    → new ++ demands_for rest sign ≡ demands ++ demands_for parts sign
+part_demanded demands new parts rest part sign is pushed =
+    ap (λ ds. ds ++ demands_for rest sign) pushed
+    ∙ (append_assoc demands (record { tree = part; sign = sign } ∷ []) (demands_for rest sign)
+    ∙ (ap (λ ds. demands ++ ds) (sym (demands_for-append rest part sign))
+    ∙ ap (λ ps. demands ++ demands_for ps sign) (sym is)))
+
+pub if_ok : {T : Type 0} (P Q : T → Type 0) (result : Result T Memory) → ((value : T) → P value → Q value)
+    → IfOk result P → IfOk result Q
+if_ok P Q (Ok value) implies holds = implies value holds
+if_ok P Q (Err fault) implies holds = tt
+
+-- what a callee answers by the same standing
+pub stands_at : (nullable : List Bool) (part : Tree) (sign : Bool) (literals slice : List Literal) (standing : Standing)
+    → slice ≡ literals → standing ≡ tree_standing nullable part sign slice
+    → tree_standing nullable part sign literals ≡ standing
+stands_at nullable part sign literals slice standing same answer =
+    ap (tree_standing nullable part sign) (sym same) ∙ sym answer
+
+-- one step less
+pub stepped : (old new others : Found) → old ≡ one_step new → GoesOn (both old others) (both new others)
+stepped old new others is = record {
+  same = ap (λ found. found.paths ++ others.paths) (sym is);
+  fewer = subst (λ steps. new.steps + others.steps < steps + others.steps) (ap (λ found. found.steps) (sym is))
+      (omega arith);
+}
+
+-- the demand of a tree whose parts all have to hold
+pub each_goes_on : (nullable : List Bool) (tree : Tree) (sign : Bool) (parts : List Tree) (part_sign : Bool)
+    (old new : Branch) (others : List Branch)
+    → ((literals : List Literal) (rest : List Literal → Found)
+    → one_step (each_of nullable parts part_sign literals rest) ≡ search nullable tree sign literals rest)
+    → new.literals ≡ old.literals → new.demands ≡ old.demands ++ demands_for parts part_sign
+    → GoesOn (with_demand nullable (record { tree = tree; sign = sign }) old others)
+    (with_branch nullable true new others)
+each_goes_on nullable tree sign parts part_sign old new others law literals demands =
+    stepped (search nullable tree sign old.literals (search_all nullable old.demands one_path)) (found_by nullable new)
+    (found_by_all nullable others)
+    (sym (law old.literals (search_all nullable old.demands one_path))
+    ∙ ap one_step (sym ((λ i. search_all nullable (demands i) one_path (literals i))
+    ∙ (search_all-append nullable old.demands (demands_for parts part_sign) one_path old.literals
+    ∙ each_demand nullable parts part_sign (search_all nullable old.demands one_path) old.literals))))
+
+-- a branch that has come to an end
+pub ended : (old others : Found) → old ≡ one_step nothing → GoesOn (both old others) others
+ended old others is = record {
+  same = ap (λ found. found.paths ++ others.paths) (sym is);
+  fewer = subst (λ steps. others.steps < steps + others.steps) (ap (λ found. found.steps) (sym is)) (omega arith);
+}
+
+-- the same of what is found, in another form
+pub known : (old others new same : Found) → new ≡ same → GoesOn (both old others) same → GoesOn (both old others) new
+known old others new same is goes = subst (GoesOn (both old others)) (sym is) goes
+
+module _ (nullable : List Bool) (branch : Branch) (others : List Branch) where
+  abbrev rest : List Literal → Found
+  rest = search_all nullable branch.demands one_path
+
+  pub literal_implied : (literal : Literal) (sign : Bool)
+      → standing_of nullable literal sign branch.literals ≡ Implied
+      → GoesOn (with_demand nullable (record { tree = Lit literal; sign = sign }) branch others)
+      (with_branch nullable true branch others)
+  literal_implied literal sign is = stepped _ _ _
+      (ap (λ standing. by_standing standing (one_step (rest branch.literals)) (one_step nothing)
+      (with_open nullable (signed literal sign) branch.literals rest)) is)
+
+  pub literal_refuted : (literal : Literal) (sign : Bool)
+      → standing_of nullable literal sign branch.literals ≡ Refuted
+      → GoesOn (with_demand nullable (record { tree = Lit literal; sign = sign }) branch others)
+      (with_branch nullable false branch others)
+  literal_refuted literal sign is = ended _ _
+      (ap (λ standing. by_standing standing (one_step (rest branch.literals)) (one_step nothing)
+      (with_open nullable (signed literal sign) branch.literals rest)) is)
+
+  pub literal_open : (literal : Literal) (sign : Bool) (new : Found)
+      → standing_of nullable literal sign branch.literals ≡ Open
+      → GoesOn (both (with_open nullable (signed literal sign) branch.literals rest) (found_by_all nullable others)) new
+      → GoesOn (with_demand nullable (record { tree = Lit literal; sign = sign }) branch others) new
+  literal_open literal sign new is goes =
+      subst (λ found. GoesOn (both found (found_by_all nullable others)) new)
+      (ap (λ standing. by_standing standing (one_step (rest branch.literals)) (one_step nothing)
+      (with_open nullable (signed literal sign) branch.literals rest)) (sym is)) goes
+
+  -- a literal that isn't a weak relation is added
+  pub literal_pushed : (literal : Literal) (new : Branch)
+      → with_open nullable literal branch.literals rest ≡ one_step (rest (branch.literals ++ literal ∷ []))
+      → new.literals ≡ branch.literals ++ literal ∷ [] → new.demands ≡ branch.demands
+      → GoesOn (both (with_open nullable literal branch.literals rest) (found_by_all nullable others))
+      (with_branch nullable true new others)
+  literal_pushed literal new law literals demands = stepped _ _ _
+      (law ∙ ap one_step (λ i. search_all nullable (sym demands i) one_path (sym literals i)))
+
+  -- a branch with more demands
+  more_demands : (demands : List Demand)
+      → found_by nullable (demanding branch demands) ≡ search_all nullable demands rest branch.literals
+  more_demands demands = search_all-append nullable branch.demands demands one_path branch.literals
+
+  -- a weak relation splits the branch in three
+  pub relation_split : (relation : Relation) (sign : Bool) (new : Branch) (all : List Branch)
+      → new ≡ demanding branch (that_holds (Null relation.left) ∷ [])
+      → all ≡ others ++ (demanding branch (that_holds (Joined relation sign true) ∷ [])
+      ∷ demanding branch (that_holds (NotNull relation.left) ∷ that_holds (Null relation.right) ∷ []) ∷ [])
+      → GoesOn (both (with_open nullable (Joined relation sign false) branch.literals rest)
+      (found_by_all nullable others)) (with_branch nullable true new all)
+  relation_split relation sign new all new_is all_is = known
+      (with_open nullable (Joined relation sign false) branch.literals rest) (found_by_all nullable others)
+      (with_branch nullable true new all)
+      (both (with_relation nullable relation sign branch.literals rest) (found_by_all nullable others))
+      ((λ i. both (found_by nullable (new_is i)) (found_by_all nullable (all_is i)))
+      ∙ (λ i. both (more_demands (that_holds (Null relation.left) ∷ []) i)
+      ((found_by_all-append nullable others (demanding branch (that_holds (Joined relation sign true) ∷ [])
+      ∷ demanding branch (that_holds (NotNull relation.left) ∷ that_holds (Null relation.right) ∷ []) ∷ [])
+      ∙ (λ j. both (both (nothing-both
+      (more_demands (that_holds (NotNull relation.left) ∷ that_holds (Null relation.right) ∷ []) j) j)
+      (more_demands (that_holds (Joined relation sign true) ∷ []) j)) (found_by_all nullable others))) i))
+      ∙ sym (both_assoc
+      (search_all nullable (that_holds (Null relation.left) ∷ []) rest branch.literals)
+      (both (search_all nullable (that_holds (NotNull relation.left) ∷ that_holds (Null relation.right) ∷ []) rest
+      branch.literals) (search_all nullable (that_holds (Joined relation sign true) ∷ []) rest branch.literals))
+      (found_by_all nullable others)))
+      (stepped (with_open nullable (Joined relation sign false) branch.literals rest)
+      (with_relation nullable relation sign branch.literals rest) (found_by_all nullable others) refl)
+
+  abbrev some_demand : List Tree → Bool → Demand
+  some_demand parts sign = record { tree = if sign then Any parts else All parts; sign = sign }
+
+  some_search : (parts : List Tree) (sign : Bool) (literals : List Literal) (after : List Literal → Found)
+      → search nullable (some_demand parts sign).tree sign literals after
+      ≡ one_step (one_of nullable parts sign literals after)
+  some_search parts true literals after = sym (search-Any-plus nullable parts literals after)
+  some_search parts false literals after = sym (search-All-minus nullable parts literals after)
+
+  abbrev chosen_of : List Tree → Bool → Found
+  chosen_of parts sign = both (one_step (one_of nullable parts sign branch.literals rest)) (found_by_all nullable others)
+
+  -- the demand of a tree of which some part has to hold
+  pub one_goes_on : (demand : Demand) (parts : List Tree) (sign : Bool) (new : Found)
+      → one_step (one_of nullable parts sign branch.literals rest)
+      ≡ search nullable demand.tree demand.sign branch.literals rest
+      → GoesOn (chosen_of parts sign) new → GoesOn (with_demand nullable demand branch others) new
+  one_goes_on demand parts sign new law goes =
+      subst (λ found. GoesOn (both found (found_by_all nullable others)) new) law goes
+
+  pub none_to_choose : (parts : List Tree) (sign : Bool) → parts ≡ []
+      → GoesOn (chosen_of parts sign) (with_branch nullable false branch others)
+  none_to_choose parts sign empty = ended _ _ (ap (λ ps. one_step (one_of nullable ps sign branch.literals rest)) empty)
+
+  -- the first of several parts
+  abbrev by_part : Standing → Tree → List Tree → Bool → Found
+  by_part standing part parts sign = by_standing standing (rest branch.literals)
+      (one_step (one_of nullable parts sign branch.literals rest))
+      (both (search nullable part sign branch.literals rest)
+      (one_step (one_of nullable parts sign branch.literals (λ more. search nullable part (not sign) more rest))))
+
+  first_of : (all : List Tree) (part : Tree) (parts : List Tree) (sign : Bool) (standing : Standing)
+      → all ≡ part ∷ parts → tree_standing nullable part sign branch.literals ≡ standing
+      → one_step (one_of nullable all sign branch.literals rest) ≡ one_step (by_part standing part parts sign)
+  first_of all part parts sign standing is stands =
+      ap (λ ps. one_step (one_of nullable ps sign branch.literals rest)) is
+      ∙ ap (λ s. one_step (by_part s part parts sign)) stands
+
+  pub part_implied : (all : List Tree) (part : Tree) (parts : List Tree) (sign : Bool) → all ≡ part ∷ parts
+      → tree_standing nullable part sign branch.literals ≡ Implied
+      → GoesOn (chosen_of all sign) (with_branch nullable true branch others)
+  part_implied all part parts sign is stands = stepped _ _ _ (first_of all part parts sign Implied is stands)
+
+  pub part_refuted : (all : List Tree) (part : Tree) (parts : List Tree) (sign : Bool) (new : Branch)
+      → all ≡ part ∷ parts → tree_standing nullable part sign branch.literals ≡ Refuted
+      → new ≡ demanding branch (some_demand parts sign ∷ [])
+      → GoesOn (chosen_of all sign) (with_branch nullable true new others)
+  part_refuted all part parts sign new is stands new_is = stepped _ _ _
+      (first_of all part parts sign Refuted is stands
+      ∙ ap one_step (sym (ap (found_by nullable) new_is
+      ∙ (more_demands (some_demand parts sign ∷ []) ∙ some_search parts sign branch.literals rest))))
+
+  pub last_part : (all : List Tree) (part : Tree) (sign : Bool) (new : Branch) → all ≡ part ∷ []
+      → tree_standing nullable part sign branch.literals ≡ Open
+      → new ≡ demanding branch (record { tree = part; sign = sign } ∷ [])
+      → GoesOn (chosen_of all sign) (with_branch nullable true new others)
+  last_part all part sign new is stands new_is = record {
+    same = ap (λ found. found.paths ++ (found_by_all nullable others).paths)
+        (ap (found_by nullable) new_is ∙ more_demands (record { tree = part; sign = sign } ∷ []))
+        ∙ (ap (λ paths. paths ++ (found_by_all nullable others).paths)
+        (sym (append-nil (search nullable part sign branch.literals rest).paths))
+        ∙ ap (λ found. found.paths ++ (found_by_all nullable others).paths)
+        (sym (first_of all part [] sign Open is stands)));
+    fewer = less (found_by nullable new).steps (search nullable part sign branch.literals rest).steps _
+        (found_by_all nullable others).steps
+        (ap (λ found. found.steps)
+        (ap (found_by nullable) new_is ∙ more_demands (record { tree = part; sign = sign } ∷ [])))
+        (ap (λ found. found.steps) (first_of all part [] sign Open is stands));
+  }
+    where
+      less : (new x old o : ℕ) → new ≡ x → old ≡ x + (0 + 1) + 1 → new + o < old + o
+      less new x old o one two = omega arith
+
+  pub first_part : (all : List Tree) (part : Tree) (parts : List Tree) (sign : Bool) (new : Branch)
+      (every : List Branch) → all ≡ part ∷ parts → tree_standing nullable part sign branch.literals ≡ Open
+      → new ≡ demanding branch (record { tree = part; sign = sign } ∷ [])
+      → every ≡ others ++ demanding branch (record { tree = part; sign = not sign } ∷ some_demand parts sign ∷ []) ∷ []
+      → GoesOn (chosen_of all sign) (with_branch nullable true new every)
+  first_part all part parts sign new every is stands new_is every_is = known
+      (one_step (one_of nullable all sign branch.literals rest)) (found_by_all nullable others)
+      (with_branch nullable true new every) (both (by_part Open part parts sign) (found_by_all nullable others))
+      ((λ i. both (found_by nullable (new_is i)) (found_by_all nullable (every_is i)))
+      ∙ ((λ i. both (more_demands (record { tree = part; sign = sign } ∷ []) i)
+      ((found_by_all-append nullable others
+      (demanding branch (record { tree = part; sign = not sign } ∷ some_demand parts sign ∷ []) ∷ [])
+      ∙ (λ j. both (nothing-both
+      (more_demands (record { tree = part; sign = not sign } ∷ some_demand parts sign ∷ []) j) j)
+      (found_by_all nullable others))) i))
+      ∙ ((λ i. both (search nullable part sign branch.literals rest)
+      (both (some_search parts sign branch.literals (λ more. search nullable part (not sign) more rest) i)
+      (found_by_all nullable others)))
+      ∙ sym (both_assoc (search nullable part sign branch.literals rest)
+      (one_step (one_of nullable parts sign branch.literals (λ more. search nullable part (not sign) more rest)))
+      (found_by_all nullable others)))))
+      (stepped (one_step (one_of nullable all sign branch.literals rest)) (by_part Open part parts sign)
+      (found_by_all nullable others) (first_of all part parts sign Open is stands))

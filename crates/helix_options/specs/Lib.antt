@@ -1,0 +1,6 @@
+-- What the public clauses rest on.
+pub mod Paths
+pub mod Parts
+pub mod Literals
+-- The crate's inner words.
+pub mod Inner

@@ -1,0 +1,37 @@
+-- Literals that speak of the fields of a part, in ways that their kinds allow.
+use Rattle.std.specs.Prelude.{ℕ, List, Contains}
+use Rattle.helix_profile.specs.Content.{Content}
+use Rattle.helix_profile.specs.Validity.{FieldWith, IsTestFor, IsRelationFor}
+use Rattle.helix_profile.specs.declared.field.Field.{Field}
+use Rattle.helix_profile.specs.declared.relation.Relation.{Relation}
+use Rattle.helix_profile.specs.declared.test.Atom.{Atom}
+use Rattle.helix_profile.specs.declared.test.Test.{Test}
+use Rattle.helix_profile.specs.declared.test.Test.TheVariants as test
+use Rattle.helix_partition.specs.declared.partition.Partition.{Partition}
+use Rattle.helix_tree.specs.declared.literal.Literal.{Literal}
+use Rattle.helix_tree.specs.declared.literal.Literal.TheVariants.{Null, NotNull, Plain, Joined}
+
+-- a test of a value
+abbrev pub IsPlain : Test → Type 0
+IsPlain (test.IsNull wanted) = ⊥
+IsPlain other = Unit {0}
+
+-- the field is one of the part, and the test is a plain one for it
+pub record IsTestOf (fields : List Field) (part : List ℕ) (atom : Atom) : Type 0 where
+  pub own : Contains part atom.field
+  pub plain : IsPlain atom.test
+  pub valid : FieldWith fields atom.field (λ field. IsTestFor field.kind atom.test)
+
+-- both ends are fields of the part, and the relation is one for them
+pub record IsRelationOf (fields : List Field) (part : List ℕ) (relation : Relation) : Type 0 where
+  pub own_left : Contains part relation.left
+  pub own_right : Contains part relation.right
+  pub valid : FieldWith fields relation.left (λ left. FieldWith fields relation.right
+      (λ right. IsRelationFor left right relation))
+
+-- a valid literal, by the profile's fields and the numbers of those of the part
+abbrev pub IsLiteralOf : List Field → List ℕ → Literal → Type 0
+IsLiteralOf fields part (Null field) = Contains part field
+IsLiteralOf fields part (NotNull field) = Contains part field
+IsLiteralOf fields part (Plain atom sign strict) = IsTestOf fields part atom
+IsLiteralOf fields part (Joined relation sign strict) = IsRelationOf fields part relation
