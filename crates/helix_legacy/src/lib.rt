@@ -1,0 +1,12 @@
+//! The older form of profiles as today's form.
+#![tactic(auto)]
+
+mod fault;
+mod form;
+mod keys;
+mod place;
+mod pointer;
+mod visit;
+
+pub use fault::{LegacyFault, LegacyRule};
+pub use place::{Place, Step};
