@@ -11,13 +11,15 @@ use itoa::Buffer;
 use std::alloc::Global;
 
 /// The pointer of a place: `#`, then `/` and a key or an index for each step, as in `#/rules/0/rule`.
+#[tactic(auto, using(crate::proofs::Steps::outer_step))]
 pub fn pointer(alloc: Global, place: &Place) -> Result<Text, Memory>
     ensures { IfOk result (λ text. text ≡ pointer_of place.now) }
 {
     let mut text = Text::new(alloc);
     text.push('#' as u32)?;
-    for step in place.steps_inside_out().iter().rev() {
-        push_step(&mut text, step)?;
+    let steps = place.steps_inside_out();
+    for i in 0..steps.len() {
+        push_step(&mut text, &steps[steps.len() - 1 - i])?;
     }
     Ok(text)
 }
