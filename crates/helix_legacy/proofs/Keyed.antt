@@ -1,7 +1,6 @@
 -- The parts of an object and of a list, by their indexes.
 use Rattle.std.proofs.Common.{◌≡◌, ◌≢◌, ℕ, zero, suc, ◌+◌, ◌<◌, ◌≤◌, inl, inr, Bool, true, false, List, [], ◌∷◌, length, Option, Some, None, slice_get, get_or, refl, sym, ◌∙◌, ap, subst, arith, if◌then◌else◌}
-use Rattle.std.specs.Bool.{MatchBool}
-use Rattle.std.proofs.lemmas.Bool.{cases_lt}
+use Rattle.std.proofs.lemmas.Bool.{cases_lt, false_from_ne_true}
 use Rattle.std.specs.Option.{IsSomeAnd}
 use Rattle.std.specs.List.{AllByRecursion}
 use Rattle.std.specs.Str.{bytes_eq}
@@ -13,27 +12,15 @@ use Rattle.helix_json.specs.Values.{HaveDifferentKeys}
 use Rattle.helix_legacy.specs.Members.{value_of}
 use Rattle.helix_legacy.specs.Places.{index_of}
 
-when_it_holds : (b : Bool) (P : Type 0) → MatchBool b P (¬ P) → P → b ≡ true
-when_it_holds true P d p = refl
-when_it_holds false P d p = absurd (d p)
-
-it_holds : (b : Bool) (P : Type 0) → MatchBool b P (¬ P) → b ≡ true → P
-it_holds true P d e = d
-it_holds false P d e = absurd (cc)
-
-when_it_fails : (b : Bool) (P : Type 0) → MatchBool b P (¬ P) → ¬ P → b ≡ false
-when_it_fails true P d n = absurd (n d)
-when_it_fails false P d n = refl
-
 -- what the comparison of two texts tells
 pub same_bytes : (a b : List ℕ) → bytes_eq a b ≡ true → a ≡ b
-same_bytes a b e = it_holds (bytes_eq a b) (a ≡ b) (bytes_eq-Decides a b) e
+same_bytes a b e = (bytes_eq-Decides a b).0 e
 
 pub bytes_same : (a : List ℕ) → bytes_eq a a ≡ true
-bytes_same a = when_it_holds (bytes_eq a a) (a ≡ a) (bytes_eq-Decides a a) refl
+bytes_same a = (bytes_eq-Decides a a).1 refl
 
 pub other_bytes : (a b : List ℕ) → a ≢ b → bytes_eq a b ≡ false
-other_bytes a b n = when_it_fails (bytes_eq a b) (a ≡ b) (bytes_eq-Decides a b) n
+other_bytes a b n = false_from_ne_true (bytes_eq a b) (λ e. n ((bytes_eq-Decides a b).0 e))
 
 pub all_at : {A : Type 0} (P : A → Type 0) (xs : List A) (i : ℕ) (x : A) → AllByRecursion P xs
     → slice_get xs i ≡ Some x → P x

@@ -34,9 +34,13 @@ IsNoRule = Here (λ item. is_rule item ≡ false)
 abbrev pub ConstraintsAreNoList : Json → List Step → Type 0
 ConstraintsAreNoList = InMember (codes "constraints") (Here (λ v. is_list v ≡ false))
 
+-- L2 in an item
+abbrev pub BreaksRuleForm : Json → List Step → Type 0
+BreaksRuleForm item place = IsNoRule item place ⊎ ConstraintsAreNoList item place
+
+-- L2 in `rules`
 abbrev pub BreaksForm : Json → List Step → Type 0
-BreaksForm rules place = RulesAreNoList rules place
-    ⊎ InItem (λ item rest. IsNoRule item rest ⊎ ConstraintsAreNoList item rest) rules place
+BreaksForm rules place = RulesAreNoList rules place ⊎ InItem BreaksRuleForm rules place
 
 -- no control character
 abbrev pub is_name_character : ℕ → Bool
@@ -50,13 +54,17 @@ abbrev pub is_name : Json → Bool
 is_name (json.Str text) = is_name_text text
 is_name v = false
 
--- the name of a rule by its index
-abbrev pub member_of_some : List ℕ → Option Json → Option Json
-member_of_some key None = None
-member_of_some key (Some v) = value_of key (members_of v)
+-- the name of a rule: its member `rule`
+abbrev pub name_in : Json → Option Json
+name_in rule = value_of (codes "rule") (members_of rule)
+
+-- the name of the rule with an index
+abbrev pub name_of_some : Option Json → Option Json
+name_of_some None = None
+name_of_some (Some rule) = name_in rule
 
 abbrev pub name_at : List Json → ℕ → Option Json
-name_at items index = member_of_some (codes "rule") (slice_get items index)
+name_at rules index = name_of_some (slice_get rules index)
 
 -- L3: `rule` is no string, or is empty, has over 200 characters, has a character below U+0020 or U+007F, or repeats an
 -- earlier one

@@ -1,9 +1,62 @@
 //! The members of an object by their keys.
 
-ghost use Rattle.std.specs.Prelude.{◌≡◌, [], ◌∷◌, bytes_eq, option_copied};
-ghost use Rattle.helix_legacy.specs.Members.{value_of, has_key, are_keys};
+ghost use Rattle.std.specs.Prelude.{◌≡◌, [], ◌∷◌, ◌++◌, false, IfNone, IfOk, IfSome, OnOk, bytes_eq, option_copied};
+ghost use Rattle.helix_json.specs.declared.value.Json.TheViews as view;
+ghost use Rattle.helix_legacy.specs.Members.{are_keys, has_key, is_list, items_of, members_of, value_of};
 
+use helix_base::{Memory, Text};
 use helix_json::{Json, Member};
+use std::alloc::Global;
+
+/// The members of an object, and None of any other value.
+pub fn as_object(json: &Json) -> Option<&[Member]>
+    ensures some { IfSome result (λ members. json.now ≡ view.Object members.now) }
+    ensures none { IfNone result (members_of json.now ≡ []) }
+{
+    match json {
+        Json::Null => None,
+        Json::Bool(_) => None,
+        Json::Number(_) => None,
+        Json::Str(_) => None,
+        Json::List(_) => None,
+        Json::Object(members) => Some(members.as_slice()),
+    }
+}
+
+/// The items of a list, and None of any other value.
+pub fn as_list(json: &Json) -> Option<&[Json]>
+    ensures some { IfSome result (λ items. json.now ≡ view.List items.now) }
+    ensures none { IfNone result (is_list json.now ≡ false) }
+    ensures empty { IfNone result (items_of json.now ≡ []) }
+{
+    match json {
+        Json::Null => None,
+        Json::Bool(_) => None,
+        Json::Number(_) => None,
+        Json::Str(_) => None,
+        Json::List(items) => Some(items.as_slice()),
+        Json::Object(_) => None,
+    }
+}
+
+/// The text of a word of ASCII characters.
+pub fn word_text(alloc: Global, word: &str) -> Result<Text, Memory>
+    ensures { IfOk result (λ text. text ≡ word.now) }
+{
+    let mut text = Text::new(alloc);
+    push_bytes(&mut text, word.as_bytes())?;
+    Ok(text)
+}
+
+/// Appends ASCII characters.
+pub fn push_bytes(text: &mut Text, bytes: &[u8]) -> Result<(), Memory>
+    ensures { OnOk result (text.new ≡ text.old ++ bytes.now) }
+{
+    for byte in bytes {
+        text.push(u32::from(*byte))?;
+    }
+    Ok(())
+}
 
 /// Whether a text is a word of ASCII characters.
 #[tactic(auto, using(crate::proofs::Words::eq_step, crate::proofs::Words::other_lengths))]

@@ -4,8 +4,10 @@
 mod fault;
 mod form;
 mod keys;
+mod names;
 mod place;
 mod pointer;
+mod shape;
 mod visit;
 
 pub use fault::{LegacyFault, LegacyRule};

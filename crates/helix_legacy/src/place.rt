@@ -1,8 +1,8 @@
 //! Places in a JSON value.
 
 ghost use Rattle.std.specs.Prelude.{◌≡◌, [], ◌∷◌, IfOk};
-ghost use Rattle.std.specs.Str.{chars};
 
+use crate::keys::word_text;
 use helix_base::{Memory, Text};
 use std::alloc::Global;
 use std::marker::Model;
@@ -61,12 +61,11 @@ impl Place {
     }
 }
 
-/// The place of the member with a key of ASCII characters.
+/// The place of the member with a key.
 pub fn place_of(alloc: Global, key: &str) -> Result<Place, Memory>
-    requires { chars key.now ≡ key.now }
     ensures { IfOk result (λ place. place ≡ Step.Member key.now ∷ []) }
 {
     let mut place = Place::top(alloc);
-    place.step_out(Step::Member(Text::of(alloc, key)?))?;
+    place.step_out(Step::Member(word_text(alloc, key)?))?;
     Ok(place)
 }

@@ -5,6 +5,7 @@ ghost use Rattle.std.specs.Char.{IsScalar};
 ghost use Rattle.std.specs.Str.{all_scalars};
 ghost use Rattle.helix_legacy.specs.Pointers.{escaped, step_text, pointer_of};
 
+use crate::keys::push_bytes;
 use crate::place::{Place, Step};
 use helix_base::{Memory, Text};
 use itoa::Buffer;
@@ -70,13 +71,4 @@ fn push_digits(text: &mut Text, number: u64) -> Result<(), Memory>
 {
     let mut digits = Buffer::new();
     push_bytes(text, digits.format(number).as_bytes())
-}
-
-fn push_bytes(text: &mut Text, bytes: &[u8]) -> Result<(), Memory>
-    ensures { OnOk result (text.new ≡ text.old ++ bytes.now) }
-{
-    for byte in bytes {
-        text.push(u32::from(*byte))?;
-    }
-    Ok(())
 }

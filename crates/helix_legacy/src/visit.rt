@@ -9,7 +9,7 @@ ghost use Rattle.helix_legacy.specs.Tests.{operand_fault, test_fault};
 ghost use Rattle.helix_legacy.specs.Visited.{BreaksTests, one, many};
 
 use crate::form::{Form, Line, form_of, has_table_word, line_of};
-use crate::keys::value_of;
+use crate::keys::{as_list, as_object, value_of};
 use crate::place::{Place, Step, place_of};
 use helix_base::Memory;
 use helix_json::{Json, Member};
@@ -18,19 +18,18 @@ use std::alloc::Global;
 /// The place of the first fault in a visited constraint.
 #[cycle(visit)]
 fn in_constraint(alloc: Global, json: &Json) -> Result<Option<Place>, Memory>
-    requires { HasNoRepeatedKey json.now }
-    ensures { IfOk result (λ found. Finds json.now (BreaksTests one json.now) found) }
+    ensures { IfOk result (λ found. HasNoRepeatedKey json.now → Finds json.now (BreaksTests one json.now) found) }
 {
-    match json {
-        Json::Object(members) => in_object(alloc, members.as_slice()),
-        _ => Ok(None),
+    match as_object(json) {
+        Some(members) => in_object(alloc, members),
+        None => Ok(None),
     }
 }
 
 #[cycle(visit)]
 fn in_object(alloc: Global, members: &[Member]) -> Result<Option<Place>, Memory>
-    requires { HasNoRepeatedKey (view.Object members.now) }
-    ensures { let v = view.Object members.now in IfOk result (λ found. Finds v (BreaksTests one v) found) }
+    ensures { let v = view.Object members.now in
+        IfOk result (λ found. HasNoRepeatedKey v → Finds v (BreaksTests one v) found) }
 {
     match form_of(members) {
         Form::Test => test_fault(alloc, members),
@@ -43,8 +42,8 @@ fn in_object(alloc: Global, members: &[Member]) -> Result<Option<Place>, Memory>
 /// The same in the members of an object, whose values are visited constraints.
 #[cycle(visit)]
 fn in_operands(alloc: Global, members: &[Member]) -> Result<Option<Place>, Memory>
-    requires { HasNoRepeatedKey (view.Object members.now) }
-    ensures { let v = view.Object members.now in IfOk result (λ found. Finds v (InPart (BreaksTests one) v) found) }
+    ensures { let v = view.Object members.now in
+        IfOk result (λ found. HasNoRepeatedKey v → Finds v (InPart (BreaksTests one) v) found) }
 {
     for member in members {
         if let Some(mut place) = in_constraint(alloc, &member.value)? {
@@ -58,8 +57,8 @@ fn in_operands(alloc: Global, members: &[Member]) -> Result<Option<Place>, Memor
 /// The same in the members of an object, whose values are lists of visited constraints.
 #[cycle(visit)]
 fn in_branches(alloc: Global, members: &[Member]) -> Result<Option<Place>, Memory>
-    requires { HasNoRepeatedKey (view.Object members.now) }
-    ensures { let v = view.Object members.now in IfOk result (λ found. Finds v (InPart (BreaksTests many) v) found) }
+    ensures { let v = view.Object members.now in
+        IfOk result (λ found. HasNoRepeatedKey v → Finds v (InPart (BreaksTests many) v) found) }
 {
     for member in members {
         if let Some(mut place) = in_constraints(alloc, &member.value)? {
@@ -73,19 +72,18 @@ fn in_branches(alloc: Global, members: &[Member]) -> Result<Option<Place>, Memor
 /// The same in a list of visited constraints.
 #[cycle(visit)]
 pub fn in_constraints(alloc: Global, json: &Json) -> Result<Option<Place>, Memory>
-    requires { HasNoRepeatedKey json.now }
-    ensures { IfOk result (λ found. Finds json.now (BreaksTests many json.now) found) }
+    ensures { IfOk result (λ found. HasNoRepeatedKey json.now → Finds json.now (BreaksTests many json.now) found) }
 {
-    match json {
-        Json::List(items) => in_items(alloc, items.as_slice()),
-        _ => Ok(None),
+    match as_list(json) {
+        Some(items) => in_items(alloc, items),
+        None => Ok(None),
     }
 }
 
 #[cycle(visit)]
 fn in_items(alloc: Global, items: &[Json]) -> Result<Option<Place>, Memory>
-    requires { HasNoRepeatedKey (view.List items.now) }
-    ensures { let v = view.List items.now in IfOk result (λ found. Finds v (InItem (BreaksTests one) v) found) }
+    ensures { let v = view.List items.now in
+        IfOk result (λ found. HasNoRepeatedKey v → Finds v (InItem (BreaksTests one) v) found) }
 {
     for (i, item) in items.iter().enumerate() {
         if let Some(mut place) = in_constraint(alloc, item)? {
