@@ -57,3 +57,35 @@ module _ (v w : Json) (step : Step) (place : List Step) (P Q : List Step → Typ
               inr (subst Before (sym there.1.1) (inl less)))
           there.1.2;
     }
+
+-- the value itself is before all of its parts
+top_first : (v : Json) (other : List Step) → (other ≡ []) ⊎ Precedes v [] other
+top_first v [] = inl refl
+top_first v (step ∷ place) = inr tt
+
+pub finds_top : (v : Json) (P : List Step → Type 0) → P [] → Finds v P (Some [])
+finds_top v P here = record { named = here; first = λ other p. top_first v other; }
+
+-- in one member
+module _ (v w : Json) (key : List ℕ) (P : Json → List Step → Type 0) (is : value_of key (members_of v) ≡ Some w) where
+  pub none_in_member : Finds w (P w) None → Finds v (InMember key P v) None
+  none_in_member none [] h = h
+  none_in_member none (step.Item index ∷ place) h = h
+  none_in_member none (step.Member other ∷ place) h =
+      none place (some_and (value_of key (members_of v)) (λ u. P u place) w is h.1)
+
+  others_in_member : (other : List Step) → InMember key P v other
+      → (next : Step) × ((rest : List Step) × (other ≡ next ∷ rest) × (((next ≡ step.Member key) × P w rest)
+      ⊎ (index_of_part v (step.Member key) < index_of_part v next)))
+  others_in_member [] h = absurd h
+  others_in_member (step.Item index ∷ place) h = absurd h
+  others_in_member (step.Member other ∷ place) h = (step.Member other, (place, refl,
+      inl (ap step.Member h.0, some_and (value_of key (members_of v)) (λ u. P u place) w is h.1)))
+
+  pub first_in_member : (place : List Step) → IsFirstPlace w (P w) place
+      → IsFirstPlace v (InMember key P v) (step.Member key ∷ place)
+  first_in_member place first = first_in_part v w (step.Member key) place (P w) (InMember key P v) is first
+      (λ p. (refl, and_some (value_of key (members_of v)) (λ u. P u place) w is p)) others_in_member
+
+pub finds_top_at : (v : Json) (P : List Step → Type 0) (new : List Step) → new ≡ [] → P [] → Finds v P (Some new)
+finds_top_at v P new is here = let Q : List Step → Type 0 = λ p. Finds v P (Some p) in subst Q (sym is) (finds_top v P here)

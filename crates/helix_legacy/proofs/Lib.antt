@@ -5,3 +5,7 @@ pub mod Keyed
 pub mod Views
 pub mod Parted
 pub mod Visiting
+pub mod Shapes
+pub mod Breaches
+pub mod Rules
+pub mod Names

@@ -1,5 +1,5 @@
 -- The rules of the older form: where each is broken, one definition a line of their table, and which is the first.
-use Rattle.std.specs.Prelude.{◌≡◌, ◌⊎◌, ℕ, ◌<◌, Bool, false, ◌==◌, ◌&&◌, not, nat_le, List, [], ◌∷◌, length, Option, Some, None, IsSomeAnd, is_some, slice_get, codes}
+use Rattle.std.specs.Prelude.{◌≡◌, ◌⊎◌, ℕ, ◌<◌, Bool, false, ◌==◌, ◌&&◌, not, nat_le, List, [], ◌∷◌, length, take, Option, Some, None, IsSomeAnd, is_some, slice_get, codes}
 use Rattle.std.specs.List.{list_all}
 use Rattle.helix_json.specs.declared.value.Json.{Json}
 use Rattle.helix_json.specs.declared.value.Json as json
@@ -66,13 +66,17 @@ name_of_some (Some rule) = name_in rule
 abbrev pub name_at : List Json → ℕ → Option Json
 name_at rules index = name_of_some (slice_get rules index)
 
--- L3: `rule` is no string, or is empty, has over 200 characters, has a character below U+0020 or U+007F, or repeats an
--- earlier one
+-- a name is no string, or is empty, has over 200 characters, has a character below U+0020 or U+007F, or is that of an
+-- earlier rule
+abbrev pub IsFaultyName : List Json → Json → Type 0
+IsFaultyName earlier name = (is_name name ≡ false)
+    ⊎ ((i : ℕ) × (i < length earlier) × (name_at earlier i ≡ Some name))
+
+-- L3: the name of a rule is faulty
 pub record BreaksName (rules : Json) (place : List Step) : Type 0 where
   pub index : ℕ
   pub is : place ≡ step.Item index ∷ step.Member (codes "rule") ∷ []
-  pub faulty : IsSomeAnd (name_at (items_of rules) index) (λ name. (is_name name ≡ false)
-      ⊎ ((earlier : ℕ) × (earlier < index) × (name_at (items_of rules) earlier ≡ Some name)))
+  pub faulty : IsSomeAnd (name_at (items_of rules) index) (IsFaultyName (take index (items_of rules)))
 
 -- L4: a visited object with `is` has a fault
 abbrev pub BreaksATest : Json → List Step → Type 0

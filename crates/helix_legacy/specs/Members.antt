@@ -47,3 +47,8 @@ is_object v = false
 abbrev pub is_string : Json → Bool
 is_string (json.Str text) = true
 is_string v = false
+
+-- a member is there and as it has to be
+abbrev pub some_is : (Json → Bool) → Option Json → Bool
+some_is test None = false
+some_is test (Some v) = test v

@@ -6,13 +6,8 @@ use Rattle.helix_legacy.specs.declared.form.Line.{Line}
 use Rattle.helix_legacy.specs.declared.form.Line.TheVariants as line
 use Rattle.helix_legacy.specs.declared.place.Step.{Step}
 use Rattle.helix_legacy.specs.declared.place.Step.TheVariants as step
-use Rattle.helix_legacy.specs.Members.{value_of, is_list, is_string, has_key}
+use Rattle.helix_legacy.specs.Members.{value_of, is_list, is_string, some_is}
 use Rattle.helix_legacy.specs.Forms.{line_of, has_table_word}
-
--- a member is there and as it has to be
-abbrev pub some_is : (Json → Bool) → Option Json → Bool
-some_is test None = false
-some_is test (Some v) = test v
 
 -- third: its `values` is no list, or its `file` is no string, and the place is that member
 unfoldable pub operand_fault : Line → List Member → Option (List Step)

@@ -1,8 +1,8 @@
 //! The members of an object by their keys.
 
-ghost use Rattle.std.specs.Prelude.{◌≡◌, [], ◌∷◌, ◌++◌, false, IfNone, IfOk, IfSome, OnOk, bytes_eq, option_copied};
+ghost use Rattle.std.specs.Prelude.{◌≡◌, [], ◌∷◌, ◌++◌, false, IfNone, IfOk, IfSome, OnOk, bytes_eq, is_some, option_copied};
 ghost use Rattle.helix_json.specs.declared.value.Json.TheViews as view;
-ghost use Rattle.helix_legacy.specs.Members.{are_keys, has_key, is_list, items_of, members_of, value_of};
+ghost use Rattle.helix_legacy.specs.Members.{are_keys, has_key, is_list, items_of, members_of, some_is, value_of};
 
 use helix_base::{Memory, Text};
 use helix_json::{Json, Member};
@@ -26,7 +26,7 @@ pub fn as_object(json: &Json) -> Option<&[Member]>
 /// The items of a list, and None of any other value.
 pub fn as_list(json: &Json) -> Option<&[Json]>
     ensures some { IfSome result (λ items. json.now ≡ view.List items.now) }
-    ensures none { IfNone result (is_list json.now ≡ false) }
+    ensures none { is_some result ≡ is_list json.now }
     ensures empty { IfNone result (items_of json.now ≡ []) }
 {
     match json {
@@ -93,6 +93,16 @@ pub fn has_key(members: &[Member], key: &str) -> bool
     ensures { result ≡ has_key key.now members.now }
 {
     value_of(members, key).is_some()
+}
+
+/// Whether there is a list under a key.
+pub fn has_list(members: &[Member], key: &str) -> bool
+    ensures { result ≡ some_is is_list (value_of key.now members.now) }
+{
+    match value_of(members, key) {
+        Some(value) => as_list(value).is_some(),
+        None => false,
+    }
 }
 
 /// Whether this is the one key.

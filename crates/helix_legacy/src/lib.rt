@@ -1,6 +1,7 @@
 //! The older form of profiles as today's form.
 #![tactic(auto)]
 
+mod breach;
 mod fault;
 mod form;
 mod keys;

@@ -31,7 +31,7 @@ in_constraints-returns-in-Some t c = list_says c.args.json.now c.in-Some.items.n
     c.in-Some.ensures.some c.in_items.ensures
 
 pub in_constraints-returns-in-None : goal.in_constraints-returns-in-None
-in_constraints-returns-in-None t c = λ keys. no_list_finds c.args.json.now c.in-None.ensures.none
+in_constraints-returns-in-None t c = λ keys. no_list_finds c.args.json.now (sym c.in-None.ensures.none)
 
 pub in_operands-returns-in-Some : goal.in_operands-returns-in-Some
 in_operands-returns-in-Some t c = found_member (BreaksTests one) c.args.members.now c.loop-member.member-index
