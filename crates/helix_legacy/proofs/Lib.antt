@@ -8,4 +8,5 @@ pub mod Visiting
 pub mod Shapes
 pub mod Breaches
 pub mod Rules
-pub mod Names
+pub mod Naming
+pub mod Converting

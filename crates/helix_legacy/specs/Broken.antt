@@ -78,6 +78,14 @@ pub record BreaksName (rules : Json) (place : List Step) : Type 0 where
   pub is : place ≡ step.Item index ∷ step.Member (codes "rule") ∷ []
   pub faulty : IsSomeAnd (name_at (items_of rules) index) (IsFaultyName (take index (items_of rules)))
 
+-- the rules of a value of the older form
+abbrev pub rules_of_some : Option Json → List Json
+rules_of_some None = []
+rules_of_some (Some rules) = items_of rules
+
+abbrev pub rules_of : Json → List Json
+rules_of v = rules_of_some (value_of (codes "rules") (members_of v))
+
 -- L4: a visited object with `is` has a fault
 abbrev pub BreaksATest : Json → List Step → Type 0
 BreaksATest = InItem (InMember (codes "constraints") (BreaksTests many))

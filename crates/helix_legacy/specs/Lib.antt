@@ -7,5 +7,6 @@ pub mod Tests
 pub mod Visited
 pub mod Broken
 pub mod Today
+pub mod Refusal
 -- What only private clauses cite.
 pub mod Inner

@@ -13,7 +13,7 @@ use std::alloc::Global;
 
 /// The pointer of a place: `#`, then `/` and a key or an index for each step, as in `#/rules/0/rule`.
 #[tactic(auto, using(crate::proofs::Steps::outer_step))]
-pub fn pointer(alloc: Global, place: &Place) -> Result<Text, Memory>
+pub fn pointer_of(alloc: Global, place: &Place) -> Result<Text, Memory>
     ensures { IfOk result (λ text. text ≡ pointer_of place.now) }
 {
     let mut text = Text::new(alloc);

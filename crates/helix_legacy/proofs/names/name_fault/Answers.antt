@@ -1,4 +1,4 @@
-use Rattle.helix_legacy.proofs.Names.{no_names, list_names}
+use Rattle.helix_legacy.proofs.Naming.{no_names, list_names}
 use Rattle.helix_legacy.proofs.names.name_fault.Goals as goal
 
 pub returns-in-Some : goal.returns-in-Some

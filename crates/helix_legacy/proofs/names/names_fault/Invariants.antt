@@ -1,4 +1,4 @@
-use Rattle.helix_legacy.proofs.Names.{NoneFaulty}
+use Rattle.helix_legacy.proofs.Naming.{NoneFaulty}
 use Rattle.helix_legacy.proofs.names.names_fault.Given as goal
 
 abbrev pub invariant-loop-i : goal.invariant-loop-i
