@@ -1,5 +1,5 @@
 -- The first broken rule, by what each search found.
-use Rattle.std.proofs.Common.{◌≡◌, ℕ, ◌<◌, ◌⊎◌, inl, inr, Bool, true, false, List, [], ◌∷◌, Option, Some, None, is_some, codes, refl, sym, ◌∙◌, ap, subst, arith}
+use Rattle.std.proofs.Common.{◌≡◌, ℕ, ◌<◌, ◌⊎◌, inl, inr, Bool, true, false, List, [], ◌∷◌, Option, Some, None, is_some, IsTrue, codes, refl, sym, ◌∙◌, ap, subst, arith}
 use Rattle.std.specs.Option.{IsSomeAnd}
 use Rattle.std.specs.List.{AllByRecursion}
 use Rattle.helix_json.specs.declared.value.Json.{Json}
@@ -13,7 +13,7 @@ use Rattle.helix_legacy.specs.declared.fault.LegacyRule.TheVariants as rule
 use Rattle.helix_legacy.specs.declared.place.Step.{Step}
 use Rattle.helix_legacy.specs.declared.place.Step.TheVariants as step
 use Rattle.helix_legacy.specs.Members.{members_of, items_of, value_of, has_key}
-use Rattle.helix_legacy.specs.Broken.{Broken, HasConstraints, BreaksForm, BreaksName, BreaksATest, IsFirstBroken, IsUnbroken, rank}
+use Rattle.helix_legacy.specs.Broken.{Broken, is_older, HasConstraints, BreaksForm, BreaksName, BreaksATest, IsFirstBroken, IsUnbroken, rank}
 use Rattle.helix_legacy.specs.Places.{Finds, IsFirstPlace, InMember, Here}
 use Rattle.helix_legacy.specs.Inner.Parts.{IsBreach}
 use Rattle.helix_legacy.proofs.Finding.{finds_only, some_and, and_some, none_in_member, first_in_member}
@@ -86,7 +86,7 @@ module _ (members : List Member) where
           named = let Q : List Step → Type 0 = HasConstraints (view.Object members) in subst Q (sym is) here;
           first = λ other h. inl (only_one other h ∙ sym is);
         };
-        earlier = λ other less. none_before_first {λ r. (there : List Step) → ¬ (Broken r (view.Object members) there)} other less;
+        earlier = λ other less. none_before_first {P = λ r. (there : List Step) → ¬ (Broken r (view.Object members) there)} other less;
       }
 
   -- in `rules`
@@ -165,3 +165,19 @@ module _ (v : Json) (alone : Nowhere HasConstraints v) where
   no_breach form name test rule.L2 = form
   no_breach form name test rule.L3 = name
   no_breach form name test rule.L4 = test
+
+-- a value of the older form has rules
+pub older_rules : (members : List Member) (found : Option Json) → IsTrue (is_older (view.Object members))
+    → found ≡ value_of (codes "rules") members → found ≡ None → ⊥
+older_rules members found older is none =
+    let has : is_some (value_of (codes "rules") (members_of (view.Object members))) ≡ true = older in
+    let lacks : value_of (codes "rules") (members_of (view.Object members)) ≡ None =
+        its members (codes "rules") ∙ (sym is ∙ none) in
+    let lacks_it : is_some (value_of (codes "rules") (members_of (view.Object members))) ≡ false =
+        ap (λ o. is_some o) lacks in cc
+
+pub older_object : (v : Json) → IsTrue (is_older v) → members_of v ≡ [] → ⊥
+older_object v older none =
+    let has : is_some (value_of (codes "rules") (members_of v)) ≡ true = older in
+    let lacks : is_some (value_of (codes "rules") (members_of v)) ≡ false =
+        ap (λ l. is_some (value_of (codes "rules") l)) none in cc

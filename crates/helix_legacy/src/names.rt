@@ -2,7 +2,7 @@
 
 ghost use Rattle.std.specs.Prelude.{◌≡◌, ◌<◌, ◌↔◌, ℕ, length, Some, IfOk, IfSome, IsSomeAnd, IsTrue, is_some, option_copied};
 ghost use Rattle.helix_json.specs.declared.value.Json.TheViews as view;
-ghost use Rattle.helix_json.specs.declared.value.Json.TheViews.{Str};
+ghost use Rattle.helix_json.specs.declared.value.Json.{Str};
 ghost use Rattle.helix_legacy.specs.Broken.{BreaksName, IsFaultyName, is_name_character, is_name_text, name_at, name_in};
 ghost use Rattle.helix_legacy.specs.Members.{is_string};
 ghost use Rattle.helix_legacy.specs.Places.{Finds};

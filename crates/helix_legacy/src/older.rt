@@ -2,7 +2,7 @@
 
 ghost use Rattle.std.specs.Prelude.{◌≡◌, ◌≢◌, ◌-◌, ◌^◌, ◌<◌, ◌≤◌, ℕ, Some, length, IfErr, IfNone, IfOk, IfSome, IsTrue, OnOk};
 ghost use Rattle.helix_json.specs.Values.{HasNoRepeatedKey};
-ghost use Rattle.helix_json.specs.declared.value.Json.TheViews.{Str};
+ghost use Rattle.helix_json.specs.declared.value.Json.{Str};
 ghost use Rattle.helix_legacy.specs.Broken.{IsUnbroken, is_older, name_at, rules_of};
 ghost use Rattle.helix_legacy.specs.Members.{items_of};
 ghost use Rattle.helix_legacy.specs.Refusal.{Refuses};

@@ -69,6 +69,7 @@ fn the(alloc: Global, key: &str, members: &[Member]) -> Result<Json, Memory>
 }
 
 /// The word of a test.
+#[tactic(auto, unfolding(crate::specs::Forms::word_of))]
 fn copied_word(alloc: Global, members: &[Member]) -> Result<Text, Memory>
     ensures { IfOk result (λ word. word ≡ or_empty (word_of members.now)) }
 {

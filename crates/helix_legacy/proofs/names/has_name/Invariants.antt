@@ -1,5 +1,5 @@
 use Rattle.std.proofs.Common.{◌≡◌, Some}
-use Rattle.helix_json.specs.declared.value.Json.TheViews.{Str}
+use Rattle.helix_json.specs.declared.value.Json.{Str}
 use Rattle.helix_legacy.specs.Broken.{name_in}
 use Rattle.helix_legacy.proofs.Keyed.{NoneBefore}
 use Rattle.helix_legacy.proofs.names.has_name.Given as goal
