@@ -36,11 +36,11 @@ in_it None place h = absurd h
 in_it (Some w) place h = h.0
 
 -- no rule is before the first
-none_before_first : {P : LegacyRule → Type 0} (other : LegacyRule) → rank other < 1 → P other
-none_before_first rule.L1 less = absurd (omega arith)
-none_before_first rule.L2 less = absurd (omega arith)
-none_before_first rule.L3 less = absurd (omega arith)
-none_before_first rule.L4 less = absurd (omega arith)
+none_before_first : (P : LegacyRule → Type 0) (other : LegacyRule) → rank other < 1 → P other
+none_before_first P rule.L1 less = absurd (omega arith)
+none_before_first P rule.L2 less = absurd (omega arith)
+none_before_first P rule.L3 less = absurd (omega arith)
+none_before_first P rule.L4 less = absurd (omega arith)
 
 -- the value under a key repeats no key
 pub value_keys : (members : List Member) (key : List ℕ) (w : Json) → HasNoRepeatedKey (view.Object members)
@@ -86,7 +86,7 @@ module _ (members : List Member) where
           named = let Q : List Step → Type 0 = HasConstraints (view.Object members) in subst Q (sym is) here;
           first = λ other h. inl (only_one other h ∙ sym is);
         };
-        earlier = λ other less. none_before_first {P = λ r. (there : List Step) → ¬ (Broken r (view.Object members) there)} other less;
+        earlier = λ other less. none_before_first (λ r. (there : List Step) → ¬ (Broken r (view.Object members) there)) other less;
       }
 
   -- in `rules`

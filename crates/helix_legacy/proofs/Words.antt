@@ -1,5 +1,6 @@
 -- Words and keys that are compared one after the other.
 use Rattle.std.proofs.Common.{◌≡◌, ◌≢◌, ℕ, zero, suc, ◌+◌, ◌<◌, Bool, true, false, ◌&&◌, if◌then◌else◌, List, [], ◌∷◌, length, Option, Some, drop, get_or, nat_eq, refl, sym, ap, ◌∙◌, arith, add-one}
+use Rattle.std.specs.List.{list_all}
 use Rattle.std.specs.Str.{bytes_eq}
 use Rattle.helix_json.specs.declared.value.Json.{Json}
 use Rattle.helix_json.specs.declared.value.Member.{Member}
@@ -42,3 +43,13 @@ pub value_step : (key : List ℕ) (members : List Member) (i : ℕ) (default : M
     ≡ (if bytes_eq (get_or members i default).key key then Some (get_or members i default).value
        else value_of key (drop (i + 1) members))
 value_step key members i default within = rw add-one (value_suc key members i default within)
+
+all_suc : (p : ℕ → Bool) (xs : List ℕ) (i : ℕ) → i < length xs
+    → list_all p (drop i xs) ≡ (p (get_or xs i 0) && list_all p (drop (suc i) xs))
+all_suc p [] i within = absurd (omega arith)
+all_suc p (x ∷ xs) zero within = refl
+all_suc p (x ∷ xs) (suc i) within = all_suc p xs i (omega arith)
+
+pub all_step : (p : ℕ → Bool) (xs : List ℕ) (i : ℕ) → i < length xs
+    → list_all p (drop i xs) ≡ (p (get_or xs i 0) && list_all p (drop (i + 1) xs))
+all_step p xs i within = rw add-one (all_suc p xs i within)

@@ -16,6 +16,6 @@ mod visit;
 mod whole;
 
 pub use fault::{LegacyFault, LegacyRule};
-pub use older::{is_older, rule_number, today};
+pub use older::{is_older, rule_count, rule_number, today};
 pub use place::{Place, Step};
 pub use pointer::pointer_of;

@@ -2,6 +2,7 @@
 
 ghost use Rattle.std.specs.Prelude.{◌≡◌, ◌<◌, ◌↔◌, ℕ, length, Some, IfOk, IfSome, IsSomeAnd, IsTrue, is_some, option_copied};
 ghost use Rattle.helix_json.specs.declared.value.Json.TheViews as view;
+ghost use Rattle.std.specs.List.{list_all};
 ghost use Rattle.helix_json.specs.declared.value.Json.{Str};
 ghost use Rattle.helix_legacy.specs.Broken.{BreaksName, IsFaultyName, is_name_character, is_name_text, name_at, name_in};
 ghost use Rattle.helix_legacy.specs.Members.{is_string};
@@ -114,7 +115,19 @@ fn is_text(json: &Json, text: &[u32]) -> bool
 fn is_name_text(text: &[u32]) -> bool
     ensures { result ≡ is_name_text text.now }
 {
-    1 <= text.len() && text.len() <= 200 && text.iter().all(|code| is_name_character(*code))
+    1 <= text.len() && text.len() <= 200 && are_name_characters(text)
+}
+
+#[tactic(auto, using(crate::proofs::Words::all_step))]
+fn are_name_characters(text: &[u32]) -> bool
+    ensures { result ≡ list_all is_name_character text.now }
+{
+    for code in text {
+        if !is_name_character(*code) {
+            return false;
+        }
+    }
+    true
 }
 
 fn is_name_character(code: u32) -> bool

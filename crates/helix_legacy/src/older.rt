@@ -1,10 +1,10 @@
 //! The older form of profiles: whether a value has it, its form today, and its rules by their names.
 
-ghost use Rattle.std.specs.Prelude.{◌≡◌, ◌≢◌, ◌-◌, ◌^◌, ◌<◌, ◌≤◌, ℕ, Some, length, IfErr, IfNone, IfOk, IfSome, IsTrue, OnOk};
+ghost use Rattle.std.specs.Prelude.{◌≡◌, ◌≢◌, ◌-◌, ◌^◌, ◌<◌, ◌≤◌, ℕ, Some, length, IfErr, IfNone, IfOk, IfSome, IsTrue, OnOk, codes, option_copied};
 ghost use Rattle.helix_json.specs.Values.{HasNoRepeatedKey};
 ghost use Rattle.helix_json.specs.declared.value.Json.{Str};
 ghost use Rattle.helix_legacy.specs.Broken.{IsUnbroken, is_older, name_at, rules_of};
-ghost use Rattle.helix_legacy.specs.Members.{items_of};
+ghost use Rattle.helix_legacy.specs.Members.{items_of, members_of, value_of};
 ghost use Rattle.helix_legacy.specs.Refusal.{Refuses};
 ghost use Rattle.helix_legacy.specs.Today.{today_of};
 
@@ -56,7 +56,8 @@ pub fn rule_number(json: &Json, name: &Text) -> Option<u32>
     ensures some { IfSome result (λ n. (1 ≤ n) × (name_at (rules_of json.now) (n - 1) ≡ Some (Str name.now))) }
     ensures none { IfNone result ((i : ℕ) → name_at (rules_of json.now) i ≢ Some (Str name.now)) }
 {
-    for (i, rule) in rules_in(json).iter().enumerate() {
+    let rules = rules_in(json);
+    for (i, rule) in rules.iter().enumerate() {
         if is_named(rule, name.codes()) {
             return Some(i as u32 + 1);
         }
@@ -64,16 +65,29 @@ pub fn rule_number(json: &Json, name: &Text) -> Option<u32>
     None
 }
 
+/// How many rules a value of the older form has.
+pub fn rule_count(json: &Json) -> usize
+    ensures { result ≡ length (rules_of json.now) }
+{
+    rules_in(json).len()
+}
+
 /// The rules of a value of the older form, and none of any other value.
 fn rules_in(json: &Json) -> &[Json]
     ensures { result.now ≡ rules_of json.now }
 {
-    match as_object(json) {
-        Some(members) => match value_of(members, "rules") {
-            Some(rules) => items_in(rules),
-            None => &[],
-        },
+    match rules_member(json) {
+        Some(rules) => items_in(rules),
         None => &[],
+    }
+}
+
+fn rules_member(json: &Json) -> Option<&Json>
+    ensures { option_copied result ≡ value_of (codes "rules") (members_of json.now) }
+{
+    match as_object(json) {
+        Some(members) => value_of(members, "rules"),
+        None => None,
     }
 }
 
