@@ -48,7 +48,7 @@ pub value_keys : (members : List Member) (key : List ℕ) (w : Json) → HasNoRe
 value_keys members key w keys is =
     let found : Leads key members w = leads key members w is in
     let has : HasNoRepeatedKey found.member.value = all_at (λ n. HasNoRepeatedKey n.value) members found.index found.member
-        ((keys_of_members members).0 keys).1 found.at in
+    ((keys_of_members members).0 keys).1 found.at in
     subst HasNoRepeatedKey found.value_is has
 
 module _ (members : List Member) where
@@ -77,10 +77,12 @@ module _ (members : List Member) where
   unfolding Broken
   beside has place is =
       let there : (w : Json) × (value_of (codes "constraints") members ≡ Some w) =
-          a_key (value_of (codes "constraints") members) has in
-      let here : HasConstraints (view.Object members) (step.Member (codes "constraints") ∷ []) =
-          (refl, and_some (value_of (codes "constraints") (members_of (view.Object members)))
-          (λ w. Here (λ v. Unit {0}) w []) there.0 (its (codes "constraints") ∙ there.1) (refl, tt)) in
+      a_key (value_of (codes "constraints") members) has in
+      let here : HasConstraints (view.Object members) (step.Member (codes "constraints") ∷ []) = (
+        refl,
+        and_some (value_of (codes "constraints") (members_of (view.Object members)))
+            (λ w. Here (λ v. Unit {0}) w []) there.0 (its (codes "constraints") ∙ there.1) (refl, tt),
+      ) in
       record {
         first = record {
           named = let Q : List Step → Type 0 = HasConstraints (view.Object members) in subst Q (sym is) here;
@@ -106,7 +108,7 @@ module _ (members : List Member) where
     first_of P found place outer some outer_is finds =
         let Q : Option (List Step) → Type 0 = λ o. Finds rules (P rules) o in
         let R : List Step → Type 0 =
-            λ p. IsFirstPlace (view.Object members) (InMember (codes "rules") P (view.Object members)) p in
+        λ p. IsFirstPlace (view.Object members) (InMember (codes "rules") P (view.Object members)) p in
         subst R (sym outer_is)
         (first_in_member (view.Object members) rules (codes "rules") P rules_are place (subst Q some finds))
 
@@ -144,19 +146,19 @@ module _ (v : Json) (alone : Nowhere HasConstraints v) where
   pub first_form : (breach : Breach) → breach.rule ≡ rule.L2
       → IsFirstPlace v (InMember (codes "rules") BreaksForm v) breach.place → IsBreach v (Some breach)
   unfolding Broken
-  first_form breach is first = breach_is breach rule.L2 is (record { first = first; earlier = earlier_form; })
+  first_form breach is first = breach_is breach rule.L2 is (record { first = first; earlier = earlier_form })
 
   pub first_name : (breach : Breach) → breach.rule ≡ rule.L3 → Nowhere (InMember (codes "rules") BreaksForm) v
       → IsFirstPlace v (InMember (codes "rules") BreaksName v) breach.place → IsBreach v (Some breach)
   unfolding Broken
-  first_name breach is form first = breach_is breach rule.L3 is (record { first = first; earlier = earlier_name form; })
+  first_name breach is form first = breach_is breach rule.L3 is (record { first = first; earlier = earlier_name form })
 
   pub first_test : (breach : Breach) → breach.rule ≡ rule.L4 → Nowhere (InMember (codes "rules") BreaksForm) v
       → Nowhere (InMember (codes "rules") BreaksName) v
       → IsFirstPlace v (InMember (codes "rules") BreaksATest v) breach.place → IsBreach v (Some breach)
   unfolding Broken
   first_test breach is form name first =
-      breach_is breach rule.L4 is (record { first = first; earlier = earlier_test form name; })
+      breach_is breach rule.L4 is (record { first = first; earlier = earlier_test form name })
 
   pub no_breach : Nowhere (InMember (codes "rules") BreaksForm) v → Nowhere (InMember (codes "rules") BreaksName) v
       → Nowhere (InMember (codes "rules") BreaksATest) v → IsUnbroken v
@@ -172,12 +174,12 @@ pub older_rules : (members : List Member) (found : Option Json) → IsTrue (is_o
 older_rules members found older is none =
     let has : is_some (value_of (codes "rules") (members_of (view.Object members))) ≡ true = older in
     let lacks : value_of (codes "rules") (members_of (view.Object members)) ≡ None =
-        its members (codes "rules") ∙ (sym is ∙ none) in
+    its members (codes "rules") ∙ (sym is ∙ none) in
     let lacks_it : is_some (value_of (codes "rules") (members_of (view.Object members))) ≡ false =
-        ap (λ o. is_some o) lacks in cc
+    ap (λ o. is_some o) lacks in cc
 
 pub older_object : (v : Json) → IsTrue (is_older v) → members_of v ≡ [] → ⊥
 older_object v older none =
     let has : is_some (value_of (codes "rules") (members_of v)) ≡ true = older in
     let lacks : is_some (value_of (codes "rules") (members_of v)) ≡ false =
-        ap (λ l. is_some (value_of (codes "rules") l)) none in cc
+    ap (λ l. is_some (value_of (codes "rules") l)) none in cc

@@ -1,5 +1,5 @@
 -- Today's form of an object and of a list, as code sees them.
-use Rattle.std.proofs.Common.{◌≡◌, List, [], ◌∷◌, map, Result, IfOk, refl, sym, ◌∙◌, ap}
+use Rattle.std.proofs.Common.{◌≡◌, List, [], ◌∷◌, map, IsTrue, if◌then◌else◌, Result, IfOk, refl, sym, ◌∙◌, ap}
 use Rattle.helix_json.specs.declared.value.Json.{Json}
 use Rattle.helix_json.specs.declared.value.Json as json
 use Rattle.helix_json.specs.declared.value.Json.TheViews as view
@@ -8,7 +8,8 @@ use Rattle.helix_legacy.specs.declared.form.Form.{Form}
 use Rattle.helix_legacy.specs.Members.{members_of}
 use Rattle.helix_legacy.specs.Forms.{form_of}
 use Rattle.helix_legacy.specs.Inner.Converted.{operands, branches}
-use Rattle.helix_legacy.specs.Today.{member, constraint_today, constraints_today, items_today, operands_today, branches_today, object_today}
+use Rattle.helix_legacy.specs.Today.{member, constraint_today, constraints_today, items_today, operands_today, branches_today, object_today, member_today, today_of}
+use Rattle.helix_legacy.specs.Broken.{is_older}
 use Rattle.helix_base.specs.declared.memory.Memory.{Memory}
 use Rattle.helix_legacy.proofs.Views.{members_of_object}
 use Rattle.helix_legacy.proofs.Visiting.{if_ok}
@@ -87,3 +88,10 @@ pub object_copied : (v : Json) (members : List Member) (r : Result Json Memory) 
     → IfOk r (λ copy. copy ≡ v) → IfOk r (λ today. today ≡ constraints_today v)
 object_copied v members r is = if_ok r _ _
     (λ today copy. copy ∙ (is ∙ (sym (object_stays members) ∙ ap constraints_today (sym is))))
+
+-- a whole value
+pub older_today : (v : Json) (members : List Member) → v ≡ view.Object members → IsTrue (is_older v)
+    → view.Object (map member_today members) ≡ today_of v
+older_today v members is older =
+    ap (λ l. view.Object (map member_today l)) (sym (members_of_object members) ∙ ap members_of (sym is))
+    ∙ sym (ap (λ b. if b then view.Object (map member_today (members_of v)) else v) older)

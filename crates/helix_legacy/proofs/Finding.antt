@@ -39,7 +39,7 @@ module _ (v w : Json) (step : Step) (place : List Step) (P Q : List Step → Typ
     (first : IsFirstPlace w P place)
     (named : P place → Q (step ∷ place))
     (others : (other : List Step) → Q other → (next : Step) × ((rest : List Step) × (other ≡ next ∷ rest)
-        × (((next ≡ step) × P rest) ⊎ (index_of_part v step < index_of_part v next))))
+    × (((next ≡ step) × P rest) ⊎ (index_of_part v step < index_of_part v next))))
   where
     pub first_in_part : IsFirstPlace v Q (step ∷ place)
     first_in_part = record {
@@ -48,13 +48,13 @@ module _ (v w : Json) (step : Step) (place : List Step) (P Q : List Step → Typ
           let there = others other q in
           ⊎_elim
           (λ same. ⊎_elim
-              (λ equal. inl (there.1.1 ∙ (ap (λ s. s ∷ there.1.0) same.0 ∙ ap (λ p. step ∷ p) equal)))
-              (λ precedes. let Before : List Step → Type 0 = λ p. Precedes v (step ∷ place) p in
-                  inr (subst Before (sym there.1.1)
-                  (inr (sym same.0, and_some (part v step) (λ u. Precedes u place there.1.0) w is precedes))))
-              (first.first there.1.0 same.1))
+          (λ equal. inl (there.1.1 ∙ (ap (λ s. s ∷ there.1.0) same.0 ∙ ap (λ p. step ∷ p) equal)))
+          (λ precedes. let Before : List Step → Type 0 = λ p. Precedes v (step ∷ place) p in
+          inr (subst Before (sym there.1.1)
+          (inr (sym same.0, and_some (part v step) (λ u. Precedes u place there.1.0) w is precedes))))
+          (first.first there.1.0 same.1))
           (λ less. let Before : List Step → Type 0 = λ p. Precedes v (step ∷ place) p in
-              inr (subst Before (sym there.1.1) (inl less)))
+          inr (subst Before (sym there.1.1) (inl less)))
           there.1.2;
     }
 
@@ -64,7 +64,7 @@ top_first v [] = inl refl
 top_first v (step ∷ place) = inr tt
 
 pub finds_top : (v : Json) (P : List Step → Type 0) → P [] → Finds v P (Some [])
-finds_top v P here = record { named = here; first = λ other p. top_first v other; }
+finds_top v P here = record { named = here; first = λ other p. top_first v other }
 
 -- in one member
 module _ (v w : Json) (key : List ℕ) (P : Json → List Step → Type 0) (is : value_of key (members_of v) ≡ Some w) where
@@ -79,8 +79,14 @@ module _ (v w : Json) (key : List ℕ) (P : Json → List Step → Type 0) (is :
       ⊎ (index_of_part v (step.Member key) < index_of_part v next)))
   others_in_member [] h = absurd h
   others_in_member (step.Item index ∷ place) h = absurd h
-  others_in_member (step.Member other ∷ place) h = (step.Member other, (place, refl,
-      inl (ap step.Member h.0, some_and (value_of key (members_of v)) (λ u. P u place) w is h.1)))
+  others_in_member (step.Member other ∷ place) h = (
+    step.Member other,
+    (
+      place,
+      refl,
+      inl (ap step.Member h.0, some_and (value_of key (members_of v)) (λ u. P u place) w is h.1),
+    ),
+  )
 
   pub first_in_member : (place : List Step) → IsFirstPlace w (P w) place
       → IsFirstPlace v (InMember key P v) (step.Member key ∷ place)

@@ -103,8 +103,8 @@ pub none_more : {A : Type 0} (Q : A → Type 0) (xs : List A) (i : ℕ) (y : A) 
 none_more Q xs i y within read none not k below x is q =
     below_next k i ⊥ below (λ less. none k less x is q)
     (λ same. not (let at : slice_get xs i ≡ Some x = subst (λ j. slice_get xs j ≡ Some x) same is in
-      let there : slice_get xs i ≡ Some y = slice_get_read xs (length xs) i y refl within read in
-      let equal : x ≡ y = cc in subst Q equal q))
+    let there : slice_get xs i ≡ Some y = slice_get_read xs (length xs) i y refl within read in
+    let equal : x ≡ y = cc in subst Q equal q))
 
 pub none_at_all : {A : Type 0} (Q : A → Type 0) (xs : List A) (i k : ℕ) (x : A) → length xs ≤ i → NoneBefore Q xs i
     → slice_get xs k ≡ Some x → ¬ (Q x)

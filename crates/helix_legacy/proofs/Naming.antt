@@ -42,7 +42,7 @@ module _ (rules : List Json) (i : ℕ) (rule : Json) (within : i < length rules)
     next_name no_fault k less faulty = ⊎_elim (λ before. none k before faulty)
         (λ not_before. let same : k ≡ i = omega arith in
         let here : IsSomeAnd (name_at rules i) (IsFaultyName (take i rules)) =
-            subst (λ n. IsSomeAnd (name_at rules n) (IsFaultyName (take n rules))) same faulty in
+        subst (λ n. IsSomeAnd (name_at rules n) (IsFaultyName (take n rules))) same faulty in
         let true_is : answer ≡ true = says.1 (subst (λ T. T) (sym faulty_at) here) in
         not_both answer true_is no_fault) (cases_lt k i)
 
@@ -50,16 +50,16 @@ module _ (rules : List Json) (i : ℕ) (rule : Json) (within : i < length rules)
         → BreaksName (view.List rules) other → (other ≡ place) ⊎ Precedes (view.List rules) place other
     first_name place place_is other broken =
         let faulty : IsSomeAnd (name_at rules broken.index) (IsFaultyName (take broken.index rules)) =
-            subst (λ l. IsSomeAnd (name_at l broken.index) (IsFaultyName (take broken.index l))) (items_of_list rules)
-            broken.faulty in
+        subst (λ l. IsSomeAnd (name_at l broken.index) (IsFaultyName (take broken.index l))) (items_of_list rules)
+        broken.faulty in
         ⊎_elim (λ before. absurd (none broken.index before faulty))
         (λ not_before. ⊎_elim
-          (λ after. inr (let P : List Step → List Step → Type 0 = λ p q. Precedes (view.List rules) p q in
-            subst (λ p. P p other) (sym place_is) (subst (λ q. P (step.Item i ∷ step.Member (codes "rule") ∷ []) q)
-            (sym broken.is) (inl after))))
-          (λ not_after. let same : broken.index ≡ i = omega arith in
-            inl (broken.is ∙ (ap (λ n. step.Item n ∷ step.Member (codes "rule") ∷ []) same ∙ sym place_is)))
-          (cases_lt i broken.index)) (cases_lt broken.index i)
+        (λ after. inr (let P : List Step → List Step → Type 0 = λ p q. Precedes (view.List rules) p q in
+        subst (λ p. P p other) (sym place_is) (subst (λ q. P (step.Item i ∷ step.Member (codes "rule") ∷ []) q)
+        (sym broken.is) (inl after))))
+        (λ not_after. let same : broken.index ≡ i = omega arith in
+        inl (broken.is ∙ (ap (λ n. step.Item n ∷ step.Member (codes "rule") ∷ []) same ∙ sym place_is)))
+        (cases_lt i broken.index)) (cases_lt broken.index i)
 
     pub found_name : answer ≡ true → (place : List Step)
         → place ≡ step.Item i ∷ step.Member (codes "rule") ∷ []
@@ -79,13 +79,13 @@ pub no_name : (rules : List Json) (i : ℕ) → length rules ≤ i → NoneFault
     → Finds (view.List rules) (BreaksName (view.List rules)) None
 no_name rules i all none place broken =
     let faulty : IsSomeAnd (name_at rules broken.index) (IsFaultyName (take broken.index rules)) =
-        subst (λ l. IsSomeAnd (name_at l broken.index) (IsFaultyName (take broken.index l))) (items_of_list rules)
-        broken.faulty in
+    subst (λ l. IsSomeAnd (name_at l broken.index) (IsFaultyName (take broken.index l))) (items_of_list rules)
+    broken.faulty in
     ⊎_elim (λ within. none broken.index (omega arith) faulty)
     (λ past. let past_is : length rules ≤ broken.index = omega arith in
-      let nothing : name_at rules broken.index ≡ None =
-          ap name_of_some (slice_get_past rules broken.index past_is) in
-      subst (λ o. IsSomeAnd o (IsFaultyName (take broken.index rules))) nothing faulty)
+    let nothing : name_at rules broken.index ≡ None =
+    ap name_of_some (slice_get_past rules broken.index past_is) in
+    subst (λ o. IsSomeAnd o (IsFaultyName (take broken.index rules))) nothing faulty)
     (cases_lt broken.index (length rules))
 
 -- a value that is no list
@@ -129,7 +129,6 @@ not_string (json.Object' shape members) e = refl
 
 pub faulty_other : (earlier : List Json) (name : Json) → false ≡ is_string name → IsTrue true ↔ IsFaultyName earlier name
 faulty_other earlier name other = ((λ t. inl (not_string name (sym other))), (λ f. refl))
-
 
 pub named_not : (answer : Bool) (P : Type 0) → (IsTrue answer ↔ P) → answer ≡ false → ¬ P
 named_not answer P says is_false p = not_both answer (says.1 p) is_false

@@ -54,20 +54,20 @@ module _ (members : List Member) where
 
   module _ (w : Json) (is : value_of (codes "constraints") members ≡ Some w) (found : Option (List Step))
       (says : Says (BreaksTests many) w found)
-      where
-    nothing_in : (o : Option (List Step)) → ((place : List Step) → o ≡ Some place → ⊥) → Finds w (BreaksTests many w) o
-        → Finds (view.Object members) (InConstraints (view.Object members)) None
-    nothing_in None not_some finds =
-        none_in_member (view.Object members) w (codes "constraints") (BreaksTests many) (its ∙ is) finds
-    nothing_in (Some place) not_some finds = absurd (not_some place refl)
+    where
+      nothing_in : (o : Option (List Step)) → ((place : List Step) → o ≡ Some place → ⊥) → Finds w (BreaksTests many w) o
+          → Finds (view.Object members) (InConstraints (view.Object members)) None
+      nothing_in None not_some finds =
+          none_in_member (view.Object members) w (codes "constraints") (BreaksTests many) (its ∙ is) finds
+      nothing_in (Some place) not_some finds = absurd (not_some place refl)
 
-    pub nothing : ((place : List Step) → found ≡ Some place → ⊥) → Says InConstraints (view.Object members) None
-    nothing not_some keys = nothing_in found not_some (says (value_keys members (codes "constraints") w keys is))
+      pub nothing : ((place : List Step) → found ≡ Some place → ⊥) → Says InConstraints (view.Object members) None
+      nothing not_some keys = nothing_in found not_some (says (value_keys members (codes "constraints") w keys is))
 
-    pub something : (place new : List Step) → found ≡ Some place → new ≡ step.Member (codes "constraints") ∷ place
-        → Says InConstraints (view.Object members) (Some new)
-    something place new some new_is keys =
-        let Q : Option (List Step) → Type 0 = λ o. Finds w (BreaksTests many w) o in
-        let R : List Step → Type 0 = λ p. IsFirstPlace (view.Object members) (InConstraints (view.Object members)) p in
-        subst R (sym new_is) (first_in_member (view.Object members) w (codes "constraints") (BreaksTests many) (its ∙ is)
-        place (subst Q some (says (value_keys members (codes "constraints") w keys is))))
+      pub something : (place new : List Step) → found ≡ Some place → new ≡ step.Member (codes "constraints") ∷ place
+          → Says InConstraints (view.Object members) (Some new)
+      something place new some new_is keys =
+          let Q : Option (List Step) → Type 0 = λ o. Finds w (BreaksTests many w) o in
+          let R : List Step → Type 0 = λ p. IsFirstPlace (view.Object members) (InConstraints (view.Object members)) p in
+          subst R (sym new_is) (first_in_member (view.Object members) w (codes "constraints") (BreaksTests many) (its ∙ is)
+          place (subst Q some (says (value_keys members (codes "constraints") w keys is))))

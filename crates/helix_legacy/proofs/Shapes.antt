@@ -67,8 +67,8 @@ module _ (members : List Member) where
         absurd (let Q : Option Json → Type 0 = λ o. IsSomeAnd o (λ w. Here (λ v. is_list v ≡ false) w place) in subst Q is deep.1)
     list_fault (Some w) is (step.Member key ∷ place) (inr deep) =
         let fault : (place ≡ []) × (is_list w ≡ false) =
-            some_and (value_of (codes "constraints") (members_of (view.Object members)))
-            (λ v. Here (λ u. is_list u ≡ false) v place) w is deep.1 in
+        some_and (value_of (codes "constraints") (members_of (view.Object members)))
+        (λ v. Here (λ u. is_list u ≡ false) v place) w is deep.1 in
         (w, refl, fault.1, ap (λ k. step.Member k ∷ place) deep.0 ∙ ap (λ p. step.Member (codes "constraints") ∷ p) fault.0)
 
     value_is : value_of (codes "constraints") (members_of (view.Object members)) ≡ value_of (codes "constraints") members
@@ -78,8 +78,8 @@ module _ (members : List Member) where
         → Finds (view.Object members) (BreaksRuleForm (view.Object members)) None
     a_list list place broken =
         let fault : (w : Json) × (value_of (codes "constraints") members ≡ Some w) × (is_list w ≡ false)
-            × (place ≡ step.Member (codes "constraints") ∷ []) =
-            list_fault (value_of (codes "constraints") members) value_is place broken in
+        × (place ≡ step.Member (codes "constraints") ∷ []) =
+        list_fault (value_of (codes "constraints") members) value_is place broken in
         not_both (is_list fault.0) (ap (some_is is_list) (sym fault.1) ∙ list) fault.2
 
     has_constraints : has_key (codes "constraints") members ≡ true
@@ -89,8 +89,11 @@ module _ (members : List Member) where
         → BreaksRuleForm (view.Object members) (step.Member (codes "constraints") ∷ [])
     no_list_at None is none = absurd (not_both (has_key (codes "constraints") members) has_constraints
         (let P : Option Json → Bool = λ o. is_some o in ap P is))
-    no_list_at (Some w) is none = inr (refl, and_some (value_of (codes "constraints") (members_of (view.Object members)))
-        (λ v. Here (λ u. is_list u ≡ false) v []) w (value_is ∙ is) (refl, none))
+    no_list_at (Some w) is none = inr (
+      refl,
+      and_some (value_of (codes "constraints") (members_of (view.Object members)))
+          (λ v. Here (λ u. is_list u ≡ false) v []) w (value_is ∙ is) (refl, none),
+    )
 
     pub not_a_list : some_is is_list (value_of (codes "constraints") members) ≡ false → (new : List Step)
         → new ≡ step.Member (codes "constraints") ∷ []

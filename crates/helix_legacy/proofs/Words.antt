@@ -33,7 +33,7 @@ other_lengths (x ∷ xs) (y ∷ ys) other =
 value_suc : (key : List ℕ) (members : List Member) (i : ℕ) (default : Member) → i < length members
     → value_of key (drop i members)
     ≡ (if bytes_eq (get_or members i default).key key then Some (get_or members i default).value
-       else value_of key (drop (suc i) members))
+    else value_of key (drop (suc i) members))
 value_suc key [] i default within = absurd (omega arith)
 value_suc key (member ∷ members) zero default within = refl
 value_suc key (member ∷ members) (suc i) default within = value_suc key members i default (omega arith)
@@ -41,7 +41,7 @@ value_suc key (member ∷ members) (suc i) default within = value_suc key member
 pub value_step : (key : List ℕ) (members : List Member) (i : ℕ) (default : Member) → i < length members
     → value_of key (drop i members)
     ≡ (if bytes_eq (get_or members i default).key key then Some (get_or members i default).value
-       else value_of key (drop (i + 1) members))
+    else value_of key (drop (i + 1) members))
 value_step key members i default within = rw add-one (value_suc key members i default within)
 
 all_suc : (p : ℕ → Bool) (xs : List ℕ) (i : ℕ) → i < length xs

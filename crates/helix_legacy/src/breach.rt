@@ -44,7 +44,11 @@ pub fn first_breach(alloc: Global, members: &[Member]) -> Result<Option<Breach>,
 }
 
 /// The first of L2 to L4 that is broken.
-fn breach_in_rules(alloc: Global, members: &[Member], rules: &Json) -> Result<Option<Breach>, Memory>
+fn breach_in_rules(
+    alloc: Global,
+    members: &[Member],
+    rules: &Json,
+) -> Result<Option<Breach>, Memory>
     requires keys { HasNoRepeatedKey (view.Object members.now) }
     requires rules { value_of (codes "rules") members.now ≡ Some rules.now }
     requires alone { has_key (codes "constraints") members.now ≡ false }

@@ -123,5 +123,8 @@ pub fn are_two_keys(members: &[Member], first: &str, second: &str) -> bool
 pub fn are_three_keys(members: &[Member], first: &str, second: &str, third: &str) -> bool
     ensures { result ≡ are_keys (first.now ∷ second.now ∷ third.now ∷ []) members.now }
 {
-    members.len() == 3 && has_key(members, first) && has_key(members, second) && has_key(members, third)
+    members.len() == 3
+        && has_key(members, first)
+        && has_key(members, second)
+        && has_key(members, third)
 }
