@@ -1,0 +1,7 @@
+use Rattle.std.proofs.Common.{◌∙◌, codes}
+use Rattle.helix_legacy.proofs.Views.{value_in}
+use Rattle.helix_legacy.proofs.older.rules_member.Goals as goal
+
+pub returns-in-Some : goal.returns-in-Some
+returns-in-Some c = c.value_of.ensures
+    ∙ value_in c.args.json.now c.in-Some.members.now (codes "rules") c.in-Some.ensures.some

@@ -1,0 +1,6 @@
+use Rattle.helix_legacy.specs.Broken.{BreaksRuleForm}
+use Rattle.helix_legacy.proofs.Parted.{NoneInItems}
+use Rattle.helix_legacy.proofs.shape.items_fault.Given as goal
+
+abbrev pub invariant-loop-i : goal.invariant-loop-i
+invariant-loop-i l = NoneInItems BreaksRuleForm l.items l.i

@@ -1,0 +1,12 @@
+-- What the public clauses rest on.
+pub mod Members
+pub mod Places
+pub mod Pointers
+pub mod Forms
+pub mod Tests
+pub mod Visited
+pub mod Broken
+pub mod Today
+pub mod Refusal
+-- What only private clauses cite.
+pub mod Inner
