@@ -21,4 +21,4 @@ few_moves IsNoted class values words old new is form moved =
     let parts = subst (AreInForm class) is form in
     subst (λ c. MovedAtMost IsNoted (most_moves c) old new) (sym parts.0)
     (moved_wider IsNoted (1001 + 2002 * (1 + most_arcs words.automaton)) (1001 + 2002 * (1 + characters)) old new
-    (omega (arith, parts.1)) moved)
+    (omega (arith, parts.2)) moved)

@@ -11,7 +11,8 @@ use Rattle.helix_values.specs.declared.kind.Kind.TheVariants.{Boolean}
 use Rattle.helix_values.specs.Universe.{InUniverse}
 use Rattle.helix_domains.specs.Domain.{IsAllowed}
 use Rattle.helix_domains.specs.declared.atom.SignedAtom.{SignedAtom}
-use Rattle.helix_domains.specs.Inner.Listed.{AreKept, HaveSameCells, AreAscending}
+use Rattle.helix_domains.specs.Form.{AreAscending}
+use Rattle.helix_domains.specs.Inner.Listed.{AreKept, HaveSameCells}
 use Rattle.helix_domains.specs.Inner.Values.{AreValuesOf}
 use Rattle.helix_domains.specs.declared.values.Values.TheVariants.{Listed}
 use Rattle.helix_domains.proofs.Walks.{contains_more}
@@ -56,14 +57,13 @@ module _ (k : Kind) (atoms : List SignedAtom) (cells kept sorted : List Cell)
       (λ v has. fits_slot k v ((listed_exact v).1 has).in_universe) sorted (All-contains_itself sorted)
 
 -- the form that they have in a domain
-pub listed_values : (k : Kind) (atoms : List SignedAtom) (cells kept sorted listed : List Cell)
+pub listed_values : (k : Kind) (atoms : List SignedAtom) (cells kept sorted : List Cell)
     → ((v : Cell) → IsAllowed k atoms v → Contains cells v) → AreKept (IsAllowed k atoms) cells kept
-    → HaveSameCells kept sorted → AreAscending sorted → listed ≡ sorted → AreValuesOf k atoms (Listed listed)
-listed_values k atoms cells kept sorted listed have are_kept same ascending is =
-    subst (λ l. AreValuesOf k atoms (Listed l)) (sym is) (record {
-      in_form = (ascending, listed_fit k atoms cells kept sorted have are_kept same);
-      exact = listed_exact k atoms cells kept sorted have are_kept same;
-    })
+    → HaveSameCells kept sorted → AreAscending sorted → AreValuesOf k atoms (Listed sorted)
+listed_values k atoms cells kept sorted have are_kept same ascending = record {
+  in_form = (ascending, listed_fit k atoms cells kept sorted have are_kept same);
+  exact = listed_exact k atoms cells kept sorted have are_kept same;
+}
 
 -- a truth value is false or true
 pub truths_have : (atoms : List SignedAtom) (truths : List Cell) → Contains truths (cell.Bool false)

@@ -1,11 +1,10 @@
 -- Cells in ascending order, and those that a mark admits.
-use Rattle.std.proofs.Common.{◌≡◌, ◌↔◌, ℕ, ◌+◌, ◌≤◌, ◌<◌, false, true, List, length, get_or, refl, sym, ap, ◌∙◌, subst, ⊎_elim, arith, Ordering}
+use Rattle.std.proofs.Common.{◌≡◌, ◌↔◌, ℕ, ◌+◌, ◌≤◌, ◌<◌, ◌⊎◌, inl, inr, false, true, List, length, get_or, refl, sym, ap, ◌∙◌, subst, ⊎_elim, arith, Ordering}
 use Rattle.std.specs.declared.cmp.Ordering.TheVariants.{Less, Equal, Greater}
 use Rattle.std.specs.List.{Contains, AllWithin}
 use Rattle.std.specs.Ordering.{is_lt, is_eq, ordering_reverse}
 use Rattle.std.proofs.lemmas.Bool.{cases_lt}
 use Rattle.std.proofs.lemmas.List.{get_or_default}
-use Rattle.std.proofs.lemmas.List.Sorted.{sorted_far, ranks_by}
 use Rattle.helix_values.proofs.TotalOrder.{cell_cmp_total, cell_cmp-IsAntisymmetric, never_before_itself}
 use Rattle.helix_values.specs.Marks.{IsAdmitted}
 use Rattle.helix_values.specs.Order.{cell_cmp, CellLess}
@@ -15,7 +14,7 @@ use Rattle.helix_values.specs.declared.cell.CellRef.{CellRef}
 use Rattle.helix_values.specs.declared.mark.Mark.{Mark}
 use Rattle.helix_values.specs.declared.mark.Mark.TheVariants.{Start, At, After}
 use Rattle.helix_words.specs.Questions.{IsLeastAdmitted}
-use Rattle.helix_domains.specs.Inner.Listed.{AreAscending}
+use Rattle.helix_domains.specs.Form.{AreAscending}
 
 pub not_less : (o : Ordering) → is_lt o ≡ false → o ≡ Less → ⊥
 not_less o not less = let t : true ≡ false = sym (ap is_lt less) ∙ not in cc
@@ -48,10 +47,27 @@ admitted_above Start a b not admitted = tt
 admitted_above (At bound) a b not admitted = λ less. admitted (above_both a b (cell_of bound) not less)
 admitted_above (After bound) a b not admitted = below_both a b (cell_of bound) not admitted
 
+-- a cell isn't before one that it is above, nor before itself
+not_before : (a b : Cell) → CellLess a b → is_lt (cell_cmp b a) ≡ false
+not_before a b less = ap is_lt (cell_cmp_total.antisymm b a ∙ ap ordering_reverse less)
+
+not_itself : (x : Cell) → is_lt (cell_cmp x x) ≡ false
+not_itself x = by (cell_cmp x x) refl
+  where
+    by : (o : Ordering) → cell_cmp x x ≡ o → is_lt o ≡ false
+    by Less e = absurd (never_before_itself cell_cmp_total x e)
+    by Equal e = refl
+    by Greater e = refl
+
 module _ (cells : List Cell) (ascending : AreAscending cells) where
-  in_order : (i j : ℕ) (d : Cell) → i ≤ j → j < length cells → is_lt (cell_cmp (get_or cells j d) (get_or cells i d)) ≡ false
-  in_order i j d before within =
-      sorted_far (λ x y. is_lt (cell_cmp x y)) (ranks_by cell_cmp_total (λ x. x)) cells ascending i j d before within
+  pub in_order : (i j : ℕ) (d : Cell) → i ≤ j → j < length cells → is_lt (cell_cmp (get_or cells j d) (get_or cells i d)) ≡ false
+  in_order i j d before within = by (cases_lt i j)
+    where
+      by : (i < j) ⊎ (j ≤ i) → is_lt (cell_cmp (get_or cells j d) (get_or cells i d)) ≡ false
+      by (inl less) = not_before (get_or cells i d) (get_or cells j d) (ascending i j d less within)
+      by (inr not) =
+          let same : j ≡ i = omega (arith, before, not) in
+          subst (λ k. is_lt (cell_cmp (get_or cells j d) (get_or cells k d)) ≡ false) same (not_itself (get_or cells j d))
 
   -- the cells from an admitted one on are admitted, and those up to one that isn't aren't
   pub all_from : (mark : Mark) (i : ℕ) (e : Cell) → i < length cells → IsAdmitted mark (get_or cells i e)

@@ -171,7 +171,7 @@ pub no_values : (k : Kind) → class_of_kind k ≡ strings → (atoms : List Sig
     → ((n : ℕ) → IsLengthOf lengths n ↔ ((n ≤ 1000) × All (λ signed. PassesLength signed n) atoms))
     → (none : List Cell) → lengths.end ≤ lengths.shortest → none ≡ [] → AreValuesOf k atoms (Listed none)
 no_values k class atoms fit lengths of_length none past is = subst (λ l. AreValuesOf k atoms (Listed l)) (sym is) (record {
-  in_form = ((λ i d low within. absurd (omega (arith, within))), (λ i d within. absurd (omega (arith, within))));
+  in_form = ((λ i j d less within. absurd (omega (arith, within))), (λ i d within. absurd (omega (arith, within))));
   exact = λ v. (
     (λ allowed. absurd (none_allowed k class atoms fit lengths of_length past v allowed)),
     (λ has. absurd (omega (arith, has.1))),
@@ -186,15 +186,19 @@ pub text_values : (k : Kind) (class : class_of_kind k ≡ strings) (atoms : List
     → ((word : List ℕ) → All IsCharacter word → Accepts dfa word ↔ AllAccept dfas word)
     → ((word : List ℕ) → All IsCharacter word → AllAccept dfas word
     ↔ (IsWordOfKind k word × All (λ signed. PassesWord signed word) atoms))
-    → lengths.shortest < lengths.end → (words : WordSet) (slice : List ℕ)
+    → lengths.shortest < lengths.end → lengths.end ≤ 1001 → (words : WordSet) (slice : List ℕ)
     → words ≡ record {
       automaton = dfa;
       shortest = lengths.shortest;
       longest = lengths.end - 1;
       refused = slice;
     } → slice ≡ lengths.refused → most_arcs dfa ≤ characters → AreValuesOf k atoms (Texts words)
-text_values k class atoms fit lengths of_length dfa dfas product patterns some words slice is same few = record {
-  in_form = (class, subst (λ a. most_arcs a ≤ characters) (sym (ap (λ w. w.automaton) is)) few);
+text_values k class atoms fit lengths of_length dfa dfas product patterns some end words slice is same few = record {
+  in_form = (
+    class,
+    omega (arith, ap (λ w. w.longest) is, end),
+    subst (λ a. most_arcs a ≤ characters) (sym (ap (λ w. w.automaton) is)) few,
+  );
   exact = words_exact k class atoms fit lengths of_length dfa dfas product patterns some words
       (ap (λ w. w.automaton) is) (ap (λ w. w.shortest) is) (ap (λ w. w.longest) is) (ap (λ w. w.refused) is ∙ same);
 }

@@ -11,11 +11,13 @@ use Rattle.helix_profile.specs.declared.field.Field.{Field}
 use Rattle.helix_profile.specs.declared.test.Test.{Test}
 use Rattle.helix_profile.specs.declared.test.Test.TheVariants as test
 use Rattle.helix_domains.specs.declared.atom.SignedAtom.{SignedAtom}
+use Rattle.helix_domains.specs.Form.{Form}
 
--- a field, and the signed atoms that its values pass
+-- a field, the signed atoms that its values pass, and the form in which they are at hand
 pub record Restricted : Type 0 where
   pub field : Field
   pub atoms : List SignedAtom
+  pub form : Form
 
 -- the atom's test holds of a value, or with a false sign doesn't
 abbrev pub PassesAtom : SignedAtom → Cell → Type 0

@@ -6,6 +6,7 @@ ghost use Rattle.helix_domains.specs.Domain.{PassesAtom, IsAtomFor};
 ghost use Rattle.helix_words.specs.Questions.{IsLeastAnswer};
 ghost use Rattle.helix_domains.specs.Inner.Line.{cell_on, class_on, ladder_on, IsTestOn, IsOnLine};
 ghost use Rattle.helix_domains.specs.Inner.Values.{AreValuesOf};
+ghost use Rattle.helix_domains.specs.Near.{IsNextAnswer};
 ghost use Rattle.helix_domains.specs.declared.line.Line.TheVariants as line;
 ghost use Rattle.helix_grids.specs.Tests.{Passes, NamesLevelBelow, IsMember};
 ghost use Rattle.helix_ladders.specs.Ladders.{numbers_ladder, moments_ladder};
@@ -99,6 +100,44 @@ pub fn first_moment(grid: &Grid<Calendar>, mark: Mark<'_>, out: &mut Slot) -> bo
     };
     out.set(CellRef::Moment(at as i64));
     true
+}
+
+/// Makes a slot that holds a number of a grid the least one above it.
+#[inline(always)]
+pub fn next_number(grid: &Grid<Decades>, slot: &mut Slot) -> bool
+    requires { IsOnLine line.Numbers (IsMember numbers_ladder grid.now.level grid.now.tests) slot.old }
+    ensures { IsNextAnswer (IsOnLine line.Numbers (IsMember numbers_ladder grid.now.level grid.now.tests)) result
+        slot.old slot.new }
+{
+    let Some(units) = units_on(Line::Numbers, slot.view()) else {
+        unreachable!();
+    };
+    match grid.after(units) {
+        Some(next) => {
+            slot.set(CellRef::Number(next));
+            true
+        }
+        None => false,
+    }
+}
+
+/// Makes a slot that holds a moment of a grid the least one above it.
+#[inline(always)]
+pub fn next_moment(grid: &Grid<Calendar>, slot: &mut Slot) -> bool
+    requires { IsOnLine line.Moments (IsMember moments_ladder grid.now.level grid.now.tests) slot.old }
+    ensures { IsNextAnswer (IsOnLine line.Moments (IsMember moments_ladder grid.now.level grid.now.tests)) result
+        slot.old slot.new }
+{
+    let Some(at) = units_on(Line::Moments, slot.view()) else {
+        unreachable!();
+    };
+    match grid.after(at) {
+        Some(next) => {
+            slot.set(CellRef::Moment(next as i64));
+            true
+        }
+        None => false,
+    }
 }
 
 /// Whether a number is on a grid.

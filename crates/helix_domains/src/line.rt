@@ -22,6 +22,7 @@ pub enum Line {
 }
 
 /// The whole number of a cell, or `None` where it isn't on the line.
+#[inline(always)]
 pub fn units_on(line: Line, cell: CellRef<'_>) -> Option<i128>
     ensures some { IfSome result (λ units. cell_of cell.entry ≡ cell_on line units) }
     ensures none { IfNone result ((units : ℤ) → cell_of cell.entry ≢ cell_on line units) }

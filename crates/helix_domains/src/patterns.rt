@@ -1,6 +1,7 @@
 //! The automaton of the texts that signed atoms leave.
 
 ghost use Rattle.std.specs.Prelude.{ℕ, List, ◌≡◌, ◌↔◌, ◌≤◌, IfOk, OnOk};
+ghost use Rattle.std.specs.Bool.{OnTrue};
 ghost use Rattle.std.specs.List.{All, Contains};
 ghost use Rattle.helix_automata.specs.Automaton.{Accepts, most_arcs};
 ghost use Rattle.helix_automata.specs.Shape.{IsCharacter};
@@ -99,6 +100,19 @@ pub fn dfas_of(alloc: Global, kind: Kind, atoms: &[SignedAtom]) -> Result<Vec<Df
     Ok(dfas)
 }
 
+/// Whether no state accepts, and so no word is accepted.
+fn accepts_none(dfa: &Dfa) -> bool
+    ensures { OnTrue result ((word : List ℕ) → ¬ Accepts dfa.now word) }
+{
+    for state in 0..dfa.states() {
+        let _arcs = dfa.arcs(state);
+        if dfa.accepting(state) {
+            return false;
+        }
+    }
+    true
+}
+
 /// The automaton of the words that all automata accept.
 pub fn product_of(alloc: Global, dfas: Vec<Dfa>) -> Result<Dfa, Memory>
     ensures { IfOk result (λ both. (word : List ℕ) → All IsCharacter word → Accepts both word
@@ -112,6 +126,9 @@ pub fn product_of(alloc: Global, dfas: Vec<Dfa>) -> Result<Dfa, Memory>
     };
     let mut all = first;
     while let Some(next) = left.pop() {
+        if accepts_none(&all) {
+            return Ok(all);
+        }
         all = all.product(alloc, &next)?;
     }
     Ok(all)

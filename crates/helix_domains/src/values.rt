@@ -7,7 +7,7 @@ ghost use Rattle.helix_domains.specs.Inner.Values.{AreValuesOf};
 
 use crate::atom::SignedAtom;
 use crate::grids::{moments, numbers};
-use crate::sets::{listed, set_of, truths};
+use crate::sets::{listed, members_of, shortest_set, truths};
 use crate::texts::texts;
 use helix_base::Memory;
 use helix_grids::Grid;
@@ -30,8 +30,10 @@ pub fn values_of(alloc: Global, kind: Kind, atoms: &[SignedAtom]) -> Result<Valu
     requires { All (IsAtomFor kind) atoms.now }
     ensures { IfOk result (AreValuesOf kind atoms.now) }
 {
-    if let Some(cells) = set_of(atoms) {
-        return listed(alloc, kind, atoms, cells);
+    if let Some(index) = shortest_set(atoms) {
+        if let Some(members) = members_of(&atoms[index]) {
+            return listed(alloc, kind, atoms, Some(index), members);
+        }
     }
     match kind {
         Kind::Boolean => truths(alloc, atoms),

@@ -16,7 +16,14 @@ use Rattle.helix_domains.specs.declared.line.Line.TheVariants as line
 use Rattle.helix_domains.specs.declared.values.Values.{Values}
 use Rattle.helix_domains.specs.declared.values.Values.TheVariants as values
 use Rattle.helix_domains.specs.Inner.Line.{IsOnLine}
-use Rattle.helix_domains.specs.Inner.Listed.{AreAscending}
+use Rattle.helix_domains.specs.Form.{Form, listed, on_grid, spelt, AreAscending}
+
+-- the form that contracts see
+abbrev pub form_of : Values → Form
+form_of (values.Listed cells) = listed cells
+form_of (values.Numbers grid) = on_grid
+form_of (values.Moments grid) = on_grid
+form_of (values.Texts words) = spelt words
 
 -- a value is one of them
 abbrev pub HasValue : Values → Cell → Type 0
@@ -25,13 +32,14 @@ HasValue (values.Numbers grid) v = IsOnLine line.Numbers (IsMember numbers_ladde
 HasValue (values.Moments grid) v = IsOnLine line.Moments (IsMember moments_ladder grid.level grid.tests) v
 HasValue (values.Texts words) v = IsWordCell words v
 
--- their list is in order, and what isn't listed is of the class of a grid or of an automaton that has at most as many
--- arcs from a state as there are characters
+-- Their list is in order, and what isn't listed is of the class of a grid or of an automaton. That has words that fit
+-- a slot, and at most as many arcs from a state as there are characters.
 abbrev pub AreInForm : Class → Values → Type 0
 AreInForm class (values.Listed cells) = AreAscending cells × All FitsSlot cells
 AreInForm class (values.Numbers grid) = class ≡ numbers
 AreInForm class (values.Moments grid) = class ≡ moments
-AreInForm class (values.Texts words) = (class ≡ strings) × (most_arcs words.automaton ≤ characters)
+AreInForm class (values.Texts words) = (class ≡ strings) × (words.longest ≤ 1000)
+    × (most_arcs words.automaton ≤ characters)
 
 -- the values are those of a kind that pass each signed atom
 pub record AreValuesOf (kind : Kind) (atoms : List SignedAtom) (all : Values) : Type 0 where

@@ -2,9 +2,18 @@ use Rattle.std.proofs.Common.{◌+◌, ◌++◌, ◌∷◌, [], take, sym, ap, �
 use Rattle.std.proofs.lemmas.Bool.{iff_false}
 use Rattle.helix_domains.specs.Domain.{IsAllowed}
 use Rattle.helix_domains.specs.Inner.Listed.{AreKept}
+use Rattle.helix_domains.specs.Inner.Ready.{AreReady, PassesChosen}
 use Rattle.helix_domains.proofs.Listing.{kept_more, skipped_more, kept_all}
 use Rattle.helix_domains.proofs.allowed.allowed_of.Goals as goal
 use Rattle.helix_domains.proofs.allowed.allowed_of.Goals.{then-is_allowed+in_ok-copy+in_ok-push, else-is_allowed}
+
+pub is_allowed-requires-clause-ready : goal.is_allowed-requires-clause-ready
+is_allowed-requires-clause-ready c = subst (AreReady c.args.atoms.now) (sym c.as_slice.ensures.value) c.in_ok-ready.ensures
+
+pub is_allowed-requires-clause-chosen : goal.is_allowed-requires-clause-chosen
+is_allowed-requires-clause-chosen c =
+    subst (PassesChosen c.args.atoms.now c.args.chosen) (sym c.view.ensures)
+    (c.requires c.cell-item.result (c.loop-cell.cell-index, c.loop-cell-test.true, sym c.cell-item.is))
 
 pub loop-cell-preserved : goal.loop-cell-preserved
 loop-cell-preserved c =

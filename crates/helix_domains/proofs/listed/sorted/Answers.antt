@@ -4,8 +4,8 @@ use Rattle.helix_values.proofs.TotalOrder.{cell_cmp_total}
 use Rattle.helix_values.specs.Order.{cell_cmp}
 use Rattle.helix_domains.proofs.listed.sorted.Goals as goal
 
-pub returns-clause-ascending : goal.returns-clause-ascending
-returns-clause-ascending c =
+pub returns-clause-sorted : goal.returns-clause-sorted
+returns-clause-sorted c =
     c.in_ok-sort_by.ensures.sorted (λ x y. is_lt (cell_cmp x y)) (ranks_by cell_cmp_total (λ x. x))
     (answers_always _ _ _ (λ f a r g h. search rules))
 

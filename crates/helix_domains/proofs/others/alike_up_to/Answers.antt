@@ -1,5 +1,5 @@
 use Rattle.std.proofs.Common.{arith}
-use Rattle.helix_domains.proofs.Spellings.{alike_more, alike_all}
+use Rattle.helix_domains.proofs.Followings.{alike_more, alike_all}
 use Rattle.helix_domains.proofs.others.alike_up_to.Goals as goal
 
 pub loop-number-preserved : goal.loop-number-preserved

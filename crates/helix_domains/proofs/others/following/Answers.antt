@@ -1,7 +1,7 @@
 use Rattle.std.proofs.Common.{◌+◌, take, sym, ap, ◌∙◌, subst}
 use Rattle.std.proofs.lemmas.Bool.{iff_false}
 use Rattle.helix_domains.specs.Inner.Spelling.{AreFollowing}
-use Rattle.helix_domains.proofs.Spellings.{follow_in_read, follow_out_read, follow_all}
+use Rattle.helix_domains.proofs.Followings.{follow_in_read, follow_out_read, follow_all}
 use Rattle.helix_domains.proofs.others.following.Goals as goal
 use Rattle.helix_domains.proofs.others.following.Goals.{then-is_at+in_ok-push, else-is_at}
 

@@ -1,4 +1,4 @@
-use Rattle.helix_domains.proofs.Spellings.{below_more_number}
+use Rattle.helix_domains.proofs.Followings.{below_more_number}
 use Rattle.helix_domains.proofs.others.numbers_below.Goals as goal
 
 pub loop-number-preserved : goal.loop-number-preserved

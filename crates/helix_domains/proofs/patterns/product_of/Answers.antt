@@ -9,3 +9,9 @@ pub loop-next-preserved : goal.loop-next-preserved
 loop-next-preserved c = product_more c.args.dfas.items c.loop-next.left.items c.pop-in-loop-next.new.self.items
     c.loop-next.all c.in-Some-pop.next c.in_ok-all.all c.in-Some-pop.ensures.items c.loop-next.invariant
     c.in_ok-all.ensures.words
+
+pub returns-then-accepts_none : goal.returns-then-accepts_none
+returns-then-accepts_none c = λ word characters. (
+  (λ accepts. absurd (c.if-accepts_none.ensures word accepts)),
+  (λ every. ((c.loop-next.invariant word characters).1 every).1),
+)
