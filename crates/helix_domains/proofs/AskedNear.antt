@@ -71,7 +71,8 @@ module _ (field : Field) (atoms : List SignedAtom) (domain : Restricted) where
         by false none = (none.0, λ other has above. none.1 other ((are.exact other).0 has) above)
 
   -- what a question for the next value needs
-  pub value_near : (all : Values) → AreValuesOf field.kind atoms all → domain_with field atoms all ≡ domain → (kept : Near)
+  pub value_near : (all : Values) → AreValuesOf field.kind atoms all → domain_with field atoms all ≡ domain
+      → (kept : Near)
       (v : Cell) → IsNear domain kept v → HasValue all v × HasRoomNear (form_of all) kept × IsAt (form_of all) kept v
   value_near all are is kept v near =
       let at = subst (λ d. IsNear d kept v) (sym is) near in ((are.exact v).0 at.has, at.room, at.at)

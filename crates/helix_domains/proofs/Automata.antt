@@ -30,7 +30,8 @@ use Rattle.helix_domains.proofs.Walks.{all_push, all_more}
 pub within_more : (alphabet : Alphabet) (state next : Bool) (first code : ℕ)
     → next ≡ (state && is_character_of alphabet first) → is_character_of alphabet code ≡ is_character_of alphabet first
     → (word : List ℕ)
-    → ((next ≡ true) × All (IsCharacterOf alphabet) word) ↔ ((state ≡ true) × All (IsCharacterOf alphabet) (code ∷ word))
+    → ((next ≡ true) × All (IsCharacterOf alphabet) word)
+        ↔ ((state ≡ true) × All (IsCharacterOf alphabet) (code ∷ word))
 within_more alphabet state next first code is alike word = (
   (λ h. let parts = and_parts state (is_character_of alphabet first) (sym is ∙ h.0) in
       (parts.0, All-cons (IsCharacterOf alphabet) code word (alike ∙ parts.1) h.1)),
@@ -44,7 +45,8 @@ within_more alphabet state next first code is alike word = (
 -- the automaton of all others accepts with a false sign
 pub signed_false : (sign : Bool) (dfa : Automaton) (result : Result Automaton Memory) → sign ≡ false
     → IfOk result (λ other. (word : List ℕ) → All IsCharacter word → Accepts other word ↔ (Accepts dfa word → ⊥))
-    → IfOk result (λ other. (word : List ℕ) → All IsCharacter word → Accepts other word ↔ Signed sign (Accepts dfa word))
+    → IfOk result (λ other. (word : List ℕ) → All IsCharacter word → Accepts other word
+        ↔ Signed sign (Accepts dfa word))
 signed_false sign dfa (Err e) is exact = tt
 signed_false sign dfa (Ok other) is exact = λ word characters.
     subst (λ s. Accepts other word ↔ Signed s (Accepts dfa word)) (sym is) (exact word characters)
@@ -65,14 +67,16 @@ listed_or_not : (cells : List Cell) (v : Cell) → Contains cells v ⊎ (¬ Cont
 listed_or_not [] v = inr (λ has. absurd (omega (arith, has.1)))
 listed_or_not (c ∷ cells) v = by (same_or_not v c) (listed_or_not cells v)
   where
-    by : (v ≡ c) ⊎ (¬ (v ≡ c)) → Contains cells v ⊎ (¬ Contains cells v) → Contains (c ∷ cells) v ⊎ (¬ Contains (c ∷ cells) v)
+    by : (v ≡ c) ⊎ (¬ (v ≡ c)) → Contains cells v ⊎ (¬ Contains cells v) → Contains (c ∷ cells) v
+        ⊎ (¬ Contains (c ∷ cells) v)
     by (inl same) rest = inl (Contains-append_left (c ∷ []) cells v ((one_of c v).1 same))
     by (inr not) (inl has) = inl (Contains-append_right (c ∷ []) cells v has)
     by (inr not) (inr missing) = inr (λ has. ⊎_elim (λ here. not ((one_of c v).0 here)) missing
         (Contains-append_cases (c ∷ []) cells v has))
 
 -- the automaton of a list, from that of all others
-pub listed_true : (sign : Bool) (cells : List Cell) (others : Automaton) (result : Result Automaton Memory) → sign ≡ true
+pub listed_true : (sign : Bool) (cells : List Cell) (others : Automaton) (result : Result Automaton Memory) → sign
+    ≡ true
     → ((word : List ℕ) → All IsCharacter word → Accepts others word ↔ (¬ Contains cells (cell.Text word)))
     → IfOk result (λ dfa. (word : List ℕ) → All IsCharacter word → Accepts dfa word ↔ (Accepts others word → ⊥))
     → IfOk result (λ dfa. (word : List ℕ) → All IsCharacter word → Accepts dfa word
@@ -96,7 +100,8 @@ narrowed Fact old new dfa is exact word characters =
     )
 
 -- no automaton more, where the fact holds of each word
-pub narrowed_none : (Fact : List ℕ → Type 0) (old : List Automaton) → ((word : List ℕ) → All IsCharacter word → Fact word)
+pub narrowed_none : (Fact : List ℕ → Type 0) (old : List Automaton) → ((word : List ℕ) → All IsCharacter word
+    → Fact word)
     → AreNarrowed Fact old old
 narrowed_none Fact old holds word characters = ((λ all. (all, holds word characters)), (λ both. both.0))
 
@@ -106,7 +111,8 @@ pub narrowed_start : (k : Kind) (atoms : List SignedAtom) (old new : List Automa
     → AllAccept new word ↔ (IsWordOfKind k word × All (λ signed. PassesWord signed word) (take 0 atoms))
 narrowed_start k atoms old new empty narrow word characters = (
   (λ all. (((narrow word characters).0 all).1, λ i d within. absurd (omega arith))),
-  (λ both. (narrow word characters).1 (subst (λ l. AllAccept l word) (sym empty) (λ i d within. absurd (omega arith)), both.0)),
+  (λ both. (narrow word characters).1 (subst (λ l. AllAccept l word) (sym empty) (λ i d within. absurd (omega arith)),
+      both.0)),
 )
 
 pub narrowed_more : (k : Kind) (atoms : List SignedAtom) (i : ℕ) (signed : SignedAtom) → i < length atoms
@@ -128,7 +134,8 @@ pub narrowed_all : (k : Kind) (atoms : List SignedAtom) (i : ℕ) (dfas : List A
     ↔ (IsWordOfKind k word × All (λ s. PassesWord s word) (take i atoms))) → (word : List ℕ) → All IsCharacter word
     → AllAccept dfas word ↔ (IsWordOfKind k word × All (λ s. PassesWord s word) atoms)
 narrowed_all k atoms i dfas past so_far word characters =
-    subst (λ all. AllAccept dfas word ↔ (IsWordOfKind k word × All (λ s. PassesWord s word) all)) (take_all i atoms past)
+    subst (λ all. AllAccept dfas word ↔ (IsWordOfKind k word × All (λ s. PassesWord s word) all))
+        (take_all i atoms past)
     (so_far word characters)
 
 -- what an automaton of a test accepts, as an atom has it
@@ -145,7 +152,8 @@ pub equal_word : (sign : Bool) (operand : Cell) (slice : List Cell) (dfa : Autom
     → (word : List ℕ) → All IsCharacter word → Accepts dfa word ↔ Signed sign (cell.Text word ≡ operand)
 equal_word sign operand slice dfa is exact word characters =
     let same = signed_same sign (Contains slice (cell.Text word)) (cell.Text word ≡ operand)
-    (subst (λ s. Contains s (cell.Text word) ↔ (cell.Text word ≡ operand)) (sym is) (one_of operand (cell.Text word))) in
+    (subst (λ s. Contains s (cell.Text word) ↔ (cell.Text word ≡ operand)) (sym is) (one_of operand (cell.Text word)))
+        in
     ((λ accepts. same.0 ((exact word characters).0 accepts)), (λ passes. (exact word characters).1 (same.1 passes)))
 
 pub set_word : (sign : Bool) (members slice : List Cell) (dfa : Automaton) → slice ≡ members
@@ -181,7 +189,8 @@ product_more dfas old left all next both is so_far product word characters =
     let push = all_push (λ d. Accepts d word) left next in
     let before = so_far word characters in
     let now = product word characters in (
-      (λ h. let parts = now.0 h.1 in before.0 (subst (λ l. AllAccept l word) (sym is) (push.1 (h.0, parts.1)), parts.0)),
+      (λ h. let parts = now.0 h.1 in before.0 (subst (λ l. AllAccept l word) (sym is) (push.1 (h.0, parts.1)),
+          parts.0)),
       (λ h. let parts = before.1 h in let apart = push.0 (subst (λ l. AllAccept l word) is parts.0) in
           (apart.0, now.1 (parts.1, apart.1))),
     )

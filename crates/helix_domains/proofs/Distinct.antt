@@ -18,7 +18,8 @@ use Rattle.helix_domains.specs.Inner.Listed.{AreSorted, IsAboveLast, HaveSameCel
 use Rattle.helix_domains.proofs.Walks.{contains_more}
 
 -- a cell above the last of an ascending list is above all
-above_all : (all : List Cell) (cell : Cell) → AreAscending all → IsAboveLast all cell → (k : ℕ) (d : Cell) → k < length all
+above_all : (all : List Cell) (cell : Cell) → AreAscending all → IsAboveLast all cell → (k : ℕ) (d : Cell)
+    → k < length all
     → CellLess (get_or all k d) cell
 above_all all cell ascending above k d within = by (cases_lt k (length all - 1))
   where
@@ -31,7 +32,8 @@ above_all all cell ascending above k d within = by (cases_lt k (length all - 1))
 
 pub ascending_push : (all : List Cell) (cell : Cell) → AreAscending all → IsAboveLast all cell
     → AreAscending (all ++ cell ∷ [])
-ascending_push all cell ascending above = all_pairs_push CellLess all cell ascending (above_all all cell ascending above)
+ascending_push all cell ascending above = all_pairs_push CellLess all cell ascending
+    (above_all all cell ascending above)
 
 -- two cells of which neither is before the other are one
 one_cell : (a b : Cell) → is_lt (cell_cmp b a) ≡ false → ¬ CellLess a b → a ≡ b
@@ -76,13 +78,15 @@ module _ (cells all : List Cell) (i : ℕ) (cell : Cell) (within : i < length ce
           let before : early.0 < i = omega (arith, early.1, length-take-le i cells (omega (arith, within))) in
           let there : get_or cells early.0 last ≡ last = sym (get_or-take i cells early.0 last before) ∙ early.2 in
           let here : get_or cells i last ≡ cell = get_or_default cells i last cell within ∙ sym is in
-          let far = sorted_far (λ x y. is_lt (cell_cmp x y)) (ranks_by cell_cmp_total (λ x. x)) cells sorted early.0 i last
+          let far = sorted_far (λ x y. is_lt (cell_cmp x y)) (ranks_by cell_cmp_total (λ x. x)) cells sorted early.0 i
+              last
           (omega (arith, before)) within in
           let not_before : is_lt (cell_cmp cell last) ≡ false =
           subst (λ x. is_lt (cell_cmp x last) ≡ false) here
           (subst (λ x. is_lt (cell_cmp (get_or cells i last) x) ≡ false) there far) in
           subst (Contains all) (one_cell last cell not_before
-          (λ less. not_above (λ d _. subst (λ x. CellLess x cell) (get_or_default all (length all - 1) cell d at) less)))
+          (λ less. not_above (λ d _. subst (λ x. CellLess x cell) (get_or_default all (length all - 1) cell d at)
+              less)))
           listed
 
 pub same_all : (cells all : List Cell) (i : ℕ) → length cells ≤ i → HaveSameCells (take i cells) all

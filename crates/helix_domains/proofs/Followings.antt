@@ -76,7 +76,8 @@ module _ (cells : List Cell) (place : ℕ) (numbers : List ℕ) where
 
   pub follow_all : (code : ℕ) (next : List ℕ) (i : ℕ) → length numbers ≤ i
       → AreFollowing cells place (take i numbers) code next → AreFollowing cells place numbers code next
-  follow_all code next i past so_far = subst (λ l. AreFollowing cells place l code next) (take_all i numbers past) so_far
+  follow_all code next i past so_far = subst (λ l. AreFollowing cells place l code next) (take_all i numbers past)
+      so_far
 
 pub below_more_number : (n : ℕ) (all more : List ℕ) → more ≡ all ++ n ∷ []
     → ((k : ℕ) → k < n → Contains all k) → (k : ℕ) → k < n + 1 → Contains more k

@@ -112,9 +112,11 @@ one_of operand v = (
         let first : k ≡ 0 = omega (arith, within) in
         subst (λ j. get_or (operand ∷ []) j v ≡ v) first is
 
-pub equal_passes : (line : Line) (signed : SignedAtom) (operand : Cell) (slice : List Cell) (result : Result GridTest Memory)
+pub equal_passes : (line : Line) (signed : SignedAtom) (operand : Cell) (slice : List Cell)
+    (result : Result GridTest Memory)
     → signed.atom.test ≡ test.EqualTo operand → slice ≡ operand ∷ []
-    → IfOk result (λ t. (units : ℤ) → Passes (ladder_on line) t units ↔ Signed signed.sign (Contains slice (cell_on line units)))
+    → IfOk result (λ t. (units : ℤ) → Passes (ladder_on line) t units
+        ↔ Signed signed.sign (Contains slice (cell_on line units)))
     → IfOk result (λ t. (units : ℤ) → Passes (ladder_on line) t units ↔ PassesAtom signed (cell_on line units))
 equal_passes line signed operand slice (Err e) is one exact = tt
 equal_passes line signed operand slice (Ok t) is one exact = λ units.
@@ -126,7 +128,8 @@ equal_passes line signed operand slice (Ok t) is one exact = λ units.
 
 pub set_passes : (line : Line) (signed : SignedAtom) (members slice : List Cell) (result : Result GridTest Memory)
     → signed.atom.test ≡ test.InSet members → slice ≡ members
-    → IfOk result (λ t. (units : ℤ) → Passes (ladder_on line) t units ↔ Signed signed.sign (Contains slice (cell_on line units)))
+    → IfOk result (λ t. (units : ℤ) → Passes (ladder_on line) t units
+        ↔ Signed signed.sign (Contains slice (cell_on line units)))
     → IfOk result (λ t. (units : ℤ) → Passes (ladder_on line) t units ↔ PassesAtom signed (cell_on line units))
 set_passes line signed members slice (Err e) is same exact = tt
 set_passes line signed members slice (Ok t) is same exact = λ units.

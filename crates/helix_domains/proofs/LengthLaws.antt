@@ -123,4 +123,5 @@ pub lengths_all : (atoms : List SignedAtom) (i : ℕ) (lengths : Lengths) → le
     → ((n : ℕ) → IsLengthOf lengths n ↔ ((n ≤ 1000) × All (λ s. PassesLength s n) (take i atoms))) → (n : ℕ)
     → IsLengthOf lengths n ↔ ((n ≤ 1000) × All (λ s. PassesLength s n) atoms)
 lengths_all atoms i lengths past so_far n =
-    subst (λ all. IsLengthOf lengths n ↔ ((n ≤ 1000) × All (λ s. PassesLength s n) all)) (take_all i atoms past) (so_far n)
+    subst (λ all. IsLengthOf lengths n ↔ ((n ≤ 1000) × All (λ s. PassesLength s n) all)) (take_all i atoms past)
+        (so_far n)

@@ -18,7 +18,8 @@ member_at line Has v u is on = line_to line Has u (subst (IsOnLine line Has) is 
 
 module _ (line : Line) (Has : ℤ → Type 0) (u : ℤ) (old : Cell) (is : old ≡ cell_on line u) where
   above_old : (w : ℤ) (other : Cell) → other ≡ cell_on line w → CellLess old other → u <ℤ w
-  above_old w other at above = less_on line u w (subst (λ c. CellLess c (cell_on line w)) is (subst (CellLess old) at above))
+  above_old w other at above = less_on line u w (subst (λ c. CellLess c (cell_on line w)) is
+      (subst (CellLess old) at above))
 
   pub next_on : (v : ℤ) → IsLeast (λ w. Has w × (u <ℤ w)) v → IsLeastAbove (IsOnLine line Has) old (cell_on line v)
   next_on v least = record {

@@ -43,7 +43,8 @@ module _ (line : Line) (k : Kind) (level : ℕ) (class : class_of_kind k ≡ cla
     in_range : (c : Class) → c ≡ class_on line → (units : ℤ)
         → (InUniverse (widest_kind c) (cell_on line units) × IsOnGrid level (cell_on line units))
         ↔ (((ladder_on line).low ≤ℤ units) × (units ≤ℤ (ladder_on line).high) × (ladder_on line).IsOn level units)
-    in_range c is units = subst (λ d. (InUniverse (widest_kind d) (cell_on line units) × IsOnGrid level (cell_on line units))
+    in_range c is units = subst (λ d. (InUniverse (widest_kind d) (cell_on line units)
+        × IsOnGrid level (cell_on line units))
         ↔ (((ladder_on line).low ≤ℤ units) × (units ≤ℤ (ladder_on line).high) × (ladder_on line).IsOn level units))
         (sym is) (by line units)
       where
@@ -77,7 +78,8 @@ module _ (line : Line) (k : Kind) (level : ℕ) (class : class_of_kind k ≡ cla
           allowed.in_universe) in
           record { from_low = range.0; to_high = range.1; on_level = range.2; passes = (exact units).1 allowed.passes }
 
-      allowed_member : (units : ℤ) → IsMember (ladder_on line) level tests units → IsAllowed k atoms (cell_on line units)
+      allowed_member : (units : ℤ) → IsMember (ladder_on line) level tests units
+          → IsAllowed k atoms (cell_on line units)
       allowed_member units is = record {
         in_universe = (on_own_level k level (cell_on line units) own).1 ((in_range (class_of_kind k) class units).1
             (is.from_low, is.to_high, is.on_level));

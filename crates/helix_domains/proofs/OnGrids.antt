@@ -19,15 +19,18 @@ use Rattle.helix_domains.specs.Inner.Values.{AreValuesOf}
 use Rattle.helix_domains.proofs.OfKinds.{allowed_on}
 
 -- the level and the tests of a grid that is known
-members_of : (on : Line) (k : Kind) (level grid_level : ℕ) (atoms : List SignedAtom) (tests slice grid_tests : List GridTest)
+members_of : (on : Line) (k : Kind) (level grid_level : ℕ) (atoms : List SignedAtom)
+    (tests slice grid_tests : List GridTest)
     → slice ≡ tests → grid_level ≡ level → grid_tests ≡ slice
     → ((v : Cell) → IsAllowed k atoms v ↔ IsOnLine on (IsMember (ladder_on on) level tests) v)
     → (v : Cell) → IsAllowed k atoms v ↔ IsOnLine on (IsMember (ladder_on on) grid_level grid_tests) v
 members_of on k level grid_level atoms tests slice grid_tests same levels are exact v =
     subst (λ l. IsAllowed k atoms v ↔ IsOnLine on (IsMember (ladder_on on) l grid_tests) v) (sym levels)
-    (subst (λ all. IsAllowed k atoms v ↔ IsOnLine on (IsMember (ladder_on on) level all) v) (sym (are ∙ same)) (exact v))
+    (subst (λ all. IsAllowed k atoms v ↔ IsOnLine on (IsMember (ladder_on on) level all) v) (sym (are ∙ same))
+        (exact v))
 
-pub numbers_exact : (k : Kind) (level : ℕ) (atoms : List SignedAtom) (tests slice : List GridTest) (grid : Tested Decades)
+pub numbers_exact : (k : Kind) (level : ℕ) (atoms : List SignedAtom) (tests slice : List GridTest)
+    (grid : Tested Decades)
     → class_of_kind k ≡ numbers → own_level k ≡ Some level
     → ((units : ℤ) → All (λ test. Passes (ladder_on line.Numbers) test units) tests
     ↔ All (λ signed. PassesAtom signed (cell_on line.Numbers units)) atoms) → slice ≡ tests
@@ -39,7 +42,8 @@ numbers_exact k level atoms tests slice grid class own exact same is = record {
       (ap (λ g. g.tests) is) (allowed_on line.Numbers k level class own atoms tests exact);
 }
 
-pub moments_exact : (k : Kind) (level : ℕ) (atoms : List SignedAtom) (tests slice : List GridTest) (grid : Tested Calendar)
+pub moments_exact : (k : Kind) (level : ℕ) (atoms : List SignedAtom) (tests slice : List GridTest)
+    (grid : Tested Calendar)
     → class_of_kind k ≡ moments → own_level k ≡ Some level
     → ((units : ℤ) → All (λ test. Passes (ladder_on line.Moments) test units) tests
     ↔ All (λ signed. PassesAtom signed (cell_on line.Moments units)) atoms) → slice ≡ tests

@@ -44,7 +44,8 @@ on_less Numbers u v less = less_int u v less
 on_less Moments u v less = less_int u v less
 
 -- the bound of a mark that isn't on the line is null, which is above all cells
-null_only : (line : Line) (c : Cell) → IsMarkBound (class_on line) c → ((units : ℤ) → c ≢ cell_on line units) → c ≡ cell.Null
+null_only : (line : Line) (c : Cell) → IsMarkBound (class_on line) c → ((units : ℤ) → c ≢ cell_on line units) → c
+    ≡ cell.Null
 null_only line cell.Null bound off = refl
 null_only Numbers (cell.Number units) bound off = absurd (off units refl)
 null_only Moments (cell.Moment at) bound off = absurd (off at refl)
@@ -97,7 +98,8 @@ pub after_admits : (line : Line) (bound : CellRef) (u first : ℤ) → cell_of b
     → IsFirstAdmitted line (After bound) first
 after_admits line bound u first is next units small = (
   (λ admitted. up u units first next (less_on line u units (subst (λ c. CellLess c (cell_on line units)) is admitted))),
-  (λ reached. subst (λ c. CellLess c (cell_on line units)) (sym is) (on_less line u units (down u units first next reached))),
+  (λ reached. subst (λ c. CellLess c (cell_on line units)) (sym is)
+      (on_less line u units (down u units first next reached))),
 )
   where
     up : (a b c : ℤ) → c ≡ a +ℤ pos 1 → a <ℤ b → c ≤ℤ b
@@ -109,7 +111,8 @@ after_admits line bound u first is next units small = (
 pub after_admits_none : (line : Line) (bound : CellRef) → IsMarkBound (class_on line) (cell_of bound)
     → ((units : ℤ) → cell_of bound ≢ cell_on line units) → AreNotAdmitted line (After bound)
 after_admits_none line bound fits off units small admitted =
-    not_above_null line units (subst (λ c. CellLess c (cell_on line units)) (null_only line (cell_of bound) fits off) admitted)
+    not_above_null line units (subst (λ c. CellLess c (cell_on line units)) (null_only line (cell_of bound) fits off)
+        admitted)
 
 pub after_last_admits_none : (line : Line) (bound : CellRef) (u : ℤ) → cell_of bound ≡ cell_on line u
     → ((units : ℤ) → IsDecimal units → ¬ (u <ℤ units)) → AreNotAdmitted line (After bound)

@@ -60,14 +60,16 @@ not_itself x = by (cell_cmp x x) refl
     by Greater e = refl
 
 module _ (cells : List Cell) (ascending : AreAscending cells) where
-  pub in_order : (i j : ℕ) (d : Cell) → i ≤ j → j < length cells → is_lt (cell_cmp (get_or cells j d) (get_or cells i d)) ≡ false
+  pub in_order : (i j : ℕ) (d : Cell) → i ≤ j → j < length cells
+      → is_lt (cell_cmp (get_or cells j d) (get_or cells i d)) ≡ false
   in_order i j d before within = by (cases_lt i j)
     where
       by : (i < j) ⊎ (j ≤ i) → is_lt (cell_cmp (get_or cells j d) (get_or cells i d)) ≡ false
       by (inl less) = not_before (get_or cells i d) (get_or cells j d) (ascending i j d less within)
       by (inr not) =
           let same : j ≡ i = omega (arith, before, not) in
-          subst (λ k. is_lt (cell_cmp (get_or cells j d) (get_or cells k d)) ≡ false) same (not_itself (get_or cells j d))
+          subst (λ k. is_lt (cell_cmp (get_or cells j d) (get_or cells k d)) ≡ false) same
+              (not_itself (get_or cells j d))
 
   -- the cells from an admitted one on are admitted, and those up to one that isn't aren't
   pub all_from : (mark : Mark) (i : ℕ) (e : Cell) → i < length cells → IsAdmitted mark (get_or cells i e)
@@ -108,7 +110,8 @@ module _ (cells : List Cell) (ascending : AreAscending cells) where
       (before : AllWithin (λ cell. ¬ IsAdmitted bound cell) cells 0 index)
       (from : AllWithin (IsAdmitted bound) cells index (length cells)) where
     -- a listed value is the first of the cells that aren't below it
-    tied_at : (d : Cell) → Contains cells value → (index < length cells) × (cell_cmp (get_or cells index d) value ≡ Equal)
+    tied_at : (d : Cell) → Contains cells value → (index < length cells) × (cell_cmp (get_or cells index d) value
+        ≡ Equal)
     tied_at d has =
         let after : index ≤ has.0 = comes_after bound index before from value has.0 has.2 admits in
         let within : index < length cells = omega (arith, has.1) in (
@@ -119,7 +122,8 @@ module _ (cells : List Cell) (ascending : AreAscending cells) where
               (get_or_default cells has.0 d value has.1 ∙ has.2) (in_order index has.0 d after has.1)),
         )
       where
-        tied : (o : Ordering) → cell_cmp (get_or cells index d) value ≡ o → ¬ (cell_cmp (get_or cells index d) value ≡ Less)
+        tied : (o : Ordering) → cell_cmp (get_or cells index d) value ≡ o → ¬ (cell_cmp (get_or cells index d) value
+            ≡ Less)
             → is_lt (cell_cmp value (get_or cells index d)) ≡ false → cell_cmp (get_or cells index d) value ≡ Equal
         tied Less e not low = absurd (not e)
         tied Equal e not low = e

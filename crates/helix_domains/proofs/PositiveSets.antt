@@ -35,7 +35,8 @@ pub member_set : (signed : SignedAtom) (members slice : List Cell) → signed.si
 member_set signed members slice sign is same v =
     subst (λ l. PassesAtom signed v ↔ Contains l v) (sym same) (plainly signed (test.InSet members) v sign is)
 
-module _ (atoms : List SignedAtom) (index : ℕ) (signed : SignedAtom) (members : List Cell) (within : index < length atoms)
+module _ (atoms : List SignedAtom) (index : ℕ) (signed : SignedAtom) (members : List Cell)
+    (within : index < length atoms)
     (is : signed ≡ get_or atoms index signed) (exact : (v : Cell) → PassesAtom signed v ↔ Contains members v) where
   pub all_in_set : (k : Kind) (v : Cell) → IsAllowed k atoms v → Contains members v
   all_in_set k v allowed = (exact v).0 (subst (λ s. PassesAtom s v) (sym is) (allowed.passes index signed within))

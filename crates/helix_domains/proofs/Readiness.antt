@@ -49,7 +49,8 @@ matching_ready signed regex dfa is exact = λ v characters.
     subst (λ t. IsTextWith (Accepts dfa) v ↔ Holds t v) (sym is)
     (texts_with dfa (Answers regex false) exact v characters)
 
-pub containing_ready : (signed : SignedAtom) (regex : Regex) (dfa : Automaton) → signed.atom.test ≡ test.Containing regex
+pub containing_ready : (signed : SignedAtom) (regex : Regex) (dfa : Automaton) → signed.atom.test
+    ≡ test.Containing regex
     → ((word : List ℕ) → All IsCharacter word → Accepts dfa word ↔ Answers regex true word)
     → IsReadyFor signed (ready.Pattern dfa)
 containing_ready signed regex dfa is exact = λ v characters.
@@ -58,7 +59,8 @@ containing_ready signed regex dfa is exact = λ v characters.
 
 -- a value of a universe has characters alone
 pub has_characters : (k : Kind) (v : Cell) → InUniverse k v → HasCharacters v
-has_characters (kind.Text alphabet) (cell.Text codes) within = (in_widest (kind.Text alphabet) (cell.Text codes) within).1
+has_characters (kind.Text alphabet) (cell.Text codes) within = (in_widest (kind.Text alphabet) (cell.Text codes)
+    within).1
 has_characters (kind.Code code) (cell.Text codes) within = (in_widest (kind.Code code) (cell.Text codes) within).1
 has_characters kind.Boolean (cell.Text codes) within = absurd within
 has_characters kind.Integer (cell.Text codes) within = absurd within
@@ -76,7 +78,8 @@ pub ready_more : (atoms : List SignedAtom) (all : List Ready) (i : ℕ) (signed 
     → AreReady (take (i + 1) atoms) (all ++ more ∷ [])
 ready_more atoms all i signed more within is one so_far = record {
   as_many = omega (arith, length-append all (more ∷ []), long, length-take-le (i + 1) atoms (omega (arith, within)));
-  each = λ k d e below. by k d e (omega (arith, below, length-take-le (i + 1) atoms (omega (arith, within)))) (cases_lt k i);
+  each = λ k d e below. by k d e (omega (arith, below, length-take-le (i + 1) atoms (omega (arith, within))))
+      (cases_lt k i);
 }
   where
     long : length all ≡ i
@@ -87,7 +90,8 @@ ready_more atoms all i signed more within is one so_far = record {
     by k d e below (inl early) =
         subst (λ s. IsReadyFor s (get_or (all ++ more ∷ []) k e))
         (get_or-take i atoms k d early ∙ sym (get_or-take (i + 1) atoms k d below))
-        (subst (IsReadyFor (get_or (take i atoms) k d)) (sym (get_or_append_left all (more ∷ []) e k (omega (arith, early, long))))
+        (subst (IsReadyFor (get_or (take i atoms) k d))
+            (sym (get_or_append_left all (more ∷ []) e k (omega (arith, early, long))))
         (so_far.each k d e (omega (arith, early, so_far.as_many, long))))
     by k d e below (inr last) =
         let same : i ≡ k = omega (arith, below, last) in
@@ -102,10 +106,12 @@ pub ready_all : (atoms : List SignedAtom) (all : List Ready) (i : ℕ) → lengt
     → AreReady atoms all
 ready_all atoms all i past so_far = subst (λ l. AreReady l all) (take_all i atoms past) so_far
 
-pub ready_at : (atoms : List SignedAtom) (all : List Ready) (i : ℕ) (signed : SignedAtom) (one : Ready) → AreReady atoms all
+pub ready_at : (atoms : List SignedAtom) (all : List Ready) (i : ℕ) (signed : SignedAtom) (one : Ready)
+    → AreReady atoms all
     → i < length atoms → signed ≡ get_or atoms i signed → one ≡ get_or all i one → IsReadyFor signed one
 ready_at atoms all i signed one are within is at =
-    subst (λ s. IsReadyFor s one) (sym is) (subst (IsReadyFor (get_or atoms i signed)) (sym at) (are.each i signed one within))
+    subst (λ s. IsReadyFor s one) (sym is) (subst (IsReadyFor (get_or atoms i signed)) (sym at)
+        (are.each i signed one within))
 
 pub chosen_at : (atoms : List SignedAtom) (chosen : Option ℕ) (v : Cell) (i : ℕ) (signed : SignedAtom)
     → PassesChosen atoms chosen v → chosen ≡ Some i → i < length atoms → signed ≡ get_or atoms i signed

@@ -47,7 +47,8 @@ pub rest_joined : (c : Cell) (place code : ℕ) (rest : List ℕ) → code_in c 
 rest_joined (cell.Text codes) place code rest at has =
     let within : place < length codes = slice_get_within codes place code at in
     let first : get_or codes place 0 ≡ code = get_or_from_slice_get codes place code 0 at in
-    (omega arith, drop_more codes place 0 within ∙ (ap (λ c. c ∷ drop (place + 1) codes) first ∙ ap (λ r. code ∷ r) has.1))
+    (omega arith, drop_more codes place 0 within ∙ (ap (λ c. c ∷ drop (place + 1) codes) first
+        ∙ ap (λ r. code ∷ r) has.1))
 rest_joined cell.Null place code rest at has = absurd has
 rest_joined (cell.Bool truth) place code rest at has = absurd has
 rest_joined (cell.Number units) place code rest at has = absurd has
@@ -111,7 +112,8 @@ spelled cells numbers all word = (
   (λ none has. none has.0 (all has.0 has.1)
       (subst (λ c. HasRest c 0 word) (sym (get_or_default cells has.0 cell.Null (cell.Text word) has.1 ∙ has.2))
       (omega arith, refl))),
-  (λ missing number has rest. by number (cases_lt number (length cells)) (get_or cells number cell.Null) refl rest missing),
+  (λ missing number has rest. by number (cases_lt number (length cells)) (get_or cells number cell.Null) refl rest
+      missing),
 )
   where
     by : (number : ℕ) → (number < length cells) ⊎ (length cells ≤ number) → (c : Cell)
@@ -175,7 +177,8 @@ module _ (cells : List Cell) (place : ℕ) (numbers slice next next_slice : List
 pub spelled_ok : (cells : List Cell) (numbers : List ℕ) (result : Result Automaton Memory)
     → ((number : ℕ) → number < length cells → Contains numbers number)
     → IfOk result (λ dfa. (word : List ℕ) → All IsCharacter word → Accepts dfa word ↔ SpellsNone cells 0 numbers word)
-    → IfOk result (λ dfa. (word : List ℕ) → All IsCharacter word → Accepts dfa word ↔ (¬ Contains cells (cell.Text word)))
+    → IfOk result (λ dfa. (word : List ℕ) → All IsCharacter word → Accepts dfa word
+        ↔ (¬ Contains cells (cell.Text word)))
 spelled_ok cells numbers (Err e) all exact = tt
 spelled_ok cells numbers (Ok dfa) all exact = λ word characters.
     let law = spelled cells numbers all word in

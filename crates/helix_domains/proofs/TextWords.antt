@@ -52,7 +52,8 @@ no_level : (c : Class) (level : ℕ) → c ≡ strings → IsLevel c level → �
 no_level c level is levels = subst (λ d. IsLevel d level) is levels
 
 text_joined : (k : Kind) → class_of_kind k ≡ strings → (sign : Bool) (t : Test) → IsTestOfValue t → IsTestFor k t
-    → (word : List ℕ) → IsLengthFor sign t (length word) → IsWordFor sign t word → Signed sign (Holds t (cell.Text word))
+    → (word : List ℕ) → IsLengthFor sign t (length word) → IsWordFor sign t word
+        → Signed sign (Holds t (cell.Text word))
 text_joined k class sign (test.IsNull wanted) of_value fits word long is = absurd of_value
 text_joined k class sign (test.EqualTo operand) of_value fits word long is = is
 text_joined k class sign (test.InSet members) of_value fits word long is = is
@@ -61,11 +62,16 @@ text_joined k class sign (test.Containing regex) of_value fits word long is = is
 text_joined k class sign (test.OfLength count) of_value fits word long is = long
 text_joined k class sign (test.LongerThan count) of_value fits word long is = long
 text_joined k class sign (test.ShorterThan count) of_value fits word long is = long
-text_joined k class sign (test.Above bound) of_value fits word long is = absurd (no_bound (class_of_kind k) bound class fits)
-text_joined k class sign (test.AtLeast bound) of_value fits word long is = absurd (no_bound (class_of_kind k) bound class fits)
-text_joined k class sign (test.Below bound) of_value fits word long is = absurd (no_bound (class_of_kind k) bound class fits)
-text_joined k class sign (test.AtMost bound) of_value fits word long is = absurd (no_bound (class_of_kind k) bound class fits)
-text_joined k class sign (test.OnGrid level) of_value fits word long is = absurd (no_level (class_of_kind k) level class fits)
+text_joined k class sign (test.Above bound) of_value fits word long is = absurd
+    (no_bound (class_of_kind k) bound class fits)
+text_joined k class sign (test.AtLeast bound) of_value fits word long is = absurd
+    (no_bound (class_of_kind k) bound class fits)
+text_joined k class sign (test.Below bound) of_value fits word long is = absurd
+    (no_bound (class_of_kind k) bound class fits)
+text_joined k class sign (test.AtMost bound) of_value fits word long is = absurd
+    (no_bound (class_of_kind k) bound class fits)
+text_joined k class sign (test.OnGrid level) of_value fits word long is = absurd
+    (no_level (class_of_kind k) level class fits)
 
 -- a text of a kind
 pub universe_text : (k : Kind) → class_of_kind k ≡ strings → (word : List ℕ) → InUniverse k (cell.Text word)
@@ -85,7 +91,8 @@ universe_text kind.Date class word = cc
 universe_text kind.DateTime class word = cc
 
 -- a value of the kind is a text
-pub text_of : (k : Kind) → class_of_kind k ≡ strings → (v : Cell) → InUniverse k v → (word : List ℕ) × (v ≡ cell.Text word)
+pub text_of : (k : Kind) → class_of_kind k ≡ strings → (v : Cell) → InUniverse k v → (word : List ℕ)
+    × (v ≡ cell.Text word)
 text_of k class v within = by v (class_of_value k v within ∙ ap Some class)
   where
     by : (c : Cell) → class_of c ≡ Some strings → (word : List ℕ) × (c ≡ cell.Text word)
@@ -124,7 +131,8 @@ module _ (k : Kind) (class : class_of_kind k ≡ strings) (atoms : List SignedAt
         let long = lengths_pass word allowed in
         record {
           characters = within.1;
-          accepted = subst (λ a. Accepts a word) (sym automaton) ((product word within.1).1 ((patterns word within.1).1 (
+          accepted = subst (λ a. Accepts a word) (sym automaton) ((product word within.1).1
+              ((patterns word within.1).1 (
             within.2,
             λ i d inside. (text_parts (get_or atoms i d).sign (get_or atoms i d).atom.test word
                 (allowed.passes i d inside)).1,
@@ -170,7 +178,8 @@ pub no_values : (k : Kind) → class_of_kind k ≡ strings → (atoms : List Sig
     → (lengths : Lengths)
     → ((n : ℕ) → IsLengthOf lengths n ↔ ((n ≤ 1000) × All (λ signed. PassesLength signed n) atoms))
     → (none : List Cell) → lengths.end ≤ lengths.shortest → none ≡ [] → AreValuesOf k atoms (Listed none)
-no_values k class atoms fit lengths of_length none past is = subst (λ l. AreValuesOf k atoms (Listed l)) (sym is) (record {
+no_values k class atoms fit lengths of_length none past is = subst (λ l. AreValuesOf k atoms (Listed l)) (sym is)
+    (record {
   in_form = ((λ i j d less within. absurd (omega (arith, within))), (λ i d within. absurd (omega (arith, within))));
   exact = λ v. (
     (λ allowed. absurd (none_allowed k class atoms fit lengths of_length past v allowed)),

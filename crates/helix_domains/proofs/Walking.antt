@@ -52,7 +52,8 @@ module _ (cells : List Cell) (ascending : AreAscending cells) where
             (subst (λ c. is_lt (cell_cmp (get_or cells i other) c) ≡ false) at
             (in_order cells ascending k i other early within))) above)
 
-    pub next_taken : (result : Bool) (new : Cell) (before after : Near) → TakesAt cells (i + 1) result old new before after
+    pub next_taken : (result : Bool) (new : Cell) (before after : Near)
+        → TakesAt cells (i + 1) result old new before after
         → IsNextAnswer (Contains cells) result old new × KeepsAt (listed cells) result before after new
     next_taken true new before after (is, at) = (
       record {
@@ -80,12 +81,14 @@ index_within cells (near.Listed index) v at = at
 index_within cells near.OnGrid v at = absurd at
 index_within cells (near.Spelt trail) v at = absurd at
 
-pub room_at : (cells : List Cell) (kept : Near) (v : Cell) → IsAt (listed cells) kept v → HasRoomNear (listed cells) kept
+pub room_at : (cells : List Cell) (kept : Near) (v : Cell) → IsAt (listed cells) kept v
+    → HasRoomNear (listed cells) kept
 room_at cells (near.Listed index) v at = tt
 room_at cells near.OnGrid v at = absurd at
 room_at cells (near.Spelt trail) v at = absurd at
 
-pub next_at : (cells : List Cell) → AreAscending cells → (index : ℕ) (result : Bool) (old new : Cell) (before after : Near)
+pub next_at : (cells : List Cell) → AreAscending cells → (index : ℕ) (result : Bool) (old new : Cell)
+    (before after : Near)
     → index ≡ index_kept before → IsAt (listed cells) before old → TakesAt cells (index + 1) result old new before after
     → IsNextAnswer (Contains cells) result old new × KeepsAt (listed cells) result before after new
 next_at cells ascending index result old new before after is at takes =
@@ -168,7 +171,8 @@ none_first_spelt words none other has admitted = by other has
 pub kept_on_grid : (result : Bool) (before after : Near) (v : Cell) → HasRoomNear on_grid before → after ≡ before
     → KeepsAt on_grid result before after v
 kept_on_grid false before after v room same = same
-kept_on_grid true before after v room same = subst (λ a. HasRoomNear on_grid a × IsAt on_grid a v) (sym same) (by before room)
+kept_on_grid true before after v room same = subst (λ a. HasRoomNear on_grid a × IsAt on_grid a v) (sym same)
+    (by before room)
   where
     by : (kept : Near) → HasRoomNear on_grid kept → HasRoomNear on_grid kept × IsAt on_grid kept v
     by near.OnGrid there = (tt, tt)
@@ -178,7 +182,8 @@ kept_on_grid true before after v room same = subst (λ a. HasRoomNear on_grid a 
 -- the answers of a list, as those of the values that it holds
 module _ (values : Values) (cells slice : List Cell) (is : values ≡ Listed cells) (same : slice ≡ cells) (result : Bool)
     (old new : Cell) where
-  pub first_of_list : IsLeastAnswer (Contains slice) Start result old new → IsLeastAnswer (HasValue values) Start result old new
+  pub first_of_list : IsLeastAnswer (Contains slice) Start result old new
+      → IsLeastAnswer (HasValue values) Start result old new
   first_of_list answer =
       subst (λ v. IsLeastAnswer (HasValue v) Start result old new) (sym is)
       (subst (λ l. IsLeastAnswer (Contains l) Start result old new) same answer)

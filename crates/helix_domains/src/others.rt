@@ -165,7 +165,8 @@ impl<'a> Machine for Spelling<'a> {
         Ok(((place, next), last))
     }
 
-    ghost same_words = { λ spelling one other equal. same_spellings spelling.cells.now one.0 other.0 one.1.items other.1.items equal };
+    ghost same_words = { λ spelling one other equal. same_spellings spelling.cells.now one.0 other.0 one.1.items
+        other.1.items equal };
 }
 
 /// The numbers below a count.

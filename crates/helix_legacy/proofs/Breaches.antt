@@ -47,7 +47,8 @@ pub value_keys : (members : List Member) (key : List ℕ) (w : Json) → HasNoRe
     → value_of key members ≡ Some w → HasNoRepeatedKey w
 value_keys members key w keys is =
     let found : Leads key members w = leads key members w is in
-    let has : HasNoRepeatedKey found.member.value = all_at (λ n. HasNoRepeatedKey n.value) members found.index found.member
+    let has : HasNoRepeatedKey found.member.value = all_at (λ n. HasNoRepeatedKey n.value) members found.index
+        found.member
     ((keys_of_members members).0 keys).1 found.at in
     subst HasNoRepeatedKey found.value_is has
 
@@ -88,7 +89,8 @@ module _ (members : List Member) where
           named = let Q : List Step → Type 0 = HasConstraints (view.Object members) in subst Q (sym is) here;
           first = λ other h. inl (only_one other h ∙ sym is);
         };
-        earlier = λ other less. none_before_first (λ r. (there : List Step) → ¬ (Broken r (view.Object members) there)) other less;
+        earlier = λ other less. none_before_first (λ r. (there : List Step)
+            → ¬ (Broken r (view.Object members) there)) other less;
       }
 
   -- in `rules`
@@ -118,7 +120,8 @@ Nowhere P v = (place : List Step) → ¬ (P v place)
 module _ (v : Json) (alone : Nowhere HasConstraints v) where
   breach_is : (breach : Breach) (r : LegacyRule) → breach.rule ≡ r → IsFirstBroken v r breach.place
       → IsFirstBroken v breach.rule breach.place
-  breach_is breach r is first = let Q : LegacyRule → Type 0 = λ s. IsFirstBroken v s breach.place in subst Q (sym is) first
+  breach_is breach r is first = let Q : LegacyRule → Type 0 = λ s. IsFirstBroken v s breach.place in subst Q
+      (sym is) first
 
   earlier_form : (other : LegacyRule) → rank other < 2 → (there : List Step) → ¬ (Broken other v there)
   unfolding Broken

@@ -94,4 +94,5 @@ module _ (v w : Json) (key : List ℕ) (P : Json → List Step → Type 0) (is :
       (λ p. (refl, and_some (value_of key (members_of v)) (λ u. P u place) w is p)) others_in_member
 
 pub finds_top_at : (v : Json) (P : List Step → Type 0) (new : List Step) → new ≡ [] → P [] → Finds v P (Some new)
-finds_top_at v P new is here = let Q : List Step → Type 0 = λ p. Finds v P (Some p) in subst Q (sym is) (finds_top v P here)
+finds_top_at v P new is here = let Q : List Step → Type 0 = λ p. Finds v P (Some p) in subst Q (sym is)
+    (finds_top v P here)

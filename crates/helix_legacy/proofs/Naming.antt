@@ -34,7 +34,8 @@ module _ (rules : List Json) (i : ℕ) (rule : Json) (within : i < length rules)
     (none : NoneFaulty rules i) (answer : Bool) (earlier : List Json) (earlier_is : earlier ≡ take i rules)
     (says : IsTrue answer ↔ IsSomeAnd (name_in rule) (IsFaultyName earlier))
   where
-    faulty_at : IsSomeAnd (name_in rule) (IsFaultyName earlier) ≡ IsSomeAnd (name_at rules i) (IsFaultyName (take i rules))
+    faulty_at : IsSomeAnd (name_in rule) (IsFaultyName earlier)
+        ≡ IsSomeAnd (name_at rules i) (IsFaultyName (take i rules))
     faulty_at = ap (λ o. IsSomeAnd o (IsFaultyName earlier)) (sym (at_is rules i rule within read))
         ∙ ap (λ l. IsSomeAnd (name_at rules i) (IsFaultyName l)) earlier_is
 
@@ -127,7 +128,8 @@ not_string (json.Str text) e = absurd (cc)
 not_string (json.List' shape items) e = refl
 not_string (json.Object' shape members) e = refl
 
-pub faulty_other : (earlier : List Json) (name : Json) → false ≡ is_string name → IsTrue true ↔ IsFaultyName earlier name
+pub faulty_other : (earlier : List Json) (name : Json) → false ≡ is_string name → IsTrue true
+    ↔ IsFaultyName earlier name
 faulty_other earlier name other = ((λ t. inl (not_string name (sym other))), (λ f. refl))
 
 pub named_not : (answer : Bool) (P : Type 0) → (IsTrue answer ↔ P) → answer ≡ false → ¬ P

@@ -55,7 +55,8 @@ module _ (members : List Member) where
   module _ (w : Json) (is : value_of (codes "constraints") members ≡ Some w) (found : Option (List Step))
       (says : Says (BreaksTests many) w found)
     where
-      nothing_in : (o : Option (List Step)) → ((place : List Step) → o ≡ Some place → ⊥) → Finds w (BreaksTests many w) o
+      nothing_in : (o : Option (List Step)) → ((place : List Step) → o ≡ Some place → ⊥)
+          → Finds w (BreaksTests many w) o
           → Finds (view.Object members) (InConstraints (view.Object members)) None
       nothing_in None not_some finds =
           none_in_member (view.Object members) w (codes "constraints") (BreaksTests many) (its ∙ is) finds
@@ -68,6 +69,8 @@ module _ (members : List Member) where
           → Says InConstraints (view.Object members) (Some new)
       something place new some new_is keys =
           let Q : Option (List Step) → Type 0 = λ o. Finds w (BreaksTests many w) o in
-          let R : List Step → Type 0 = λ p. IsFirstPlace (view.Object members) (InConstraints (view.Object members)) p in
-          subst R (sym new_is) (first_in_member (view.Object members) w (codes "constraints") (BreaksTests many) (its ∙ is)
+          let R : List Step → Type 0 = λ p. IsFirstPlace (view.Object members) (InConstraints (view.Object members)) p
+              in
+          subst R (sym new_is) (first_in_member (view.Object members) w (codes "constraints") (BreaksTests many) (its
+              ∙ is)
           place (subst Q some (says (value_keys members (codes "constraints") w keys is))))

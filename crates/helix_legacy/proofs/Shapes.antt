@@ -37,7 +37,8 @@ pub items_say : (v : Json) (items : List Json) (r : Result (Option (List Step)) 
     → IfOk r (Says (InItem BreaksRuleForm) (view.List items)) → IfOk r (Says BreaksForm v)
 items_say v items r is says =
     let Q : Json → Type 0 = λ w. IfOk r (Says BreaksForm w) in
-    subst Q (sym is) (if_ok r _ _ (λ found finds keys. finds_same (view.List items) (InItem BreaksRuleForm (view.List items))
+    subst Q (sym is) (if_ok r _ _ (λ found finds keys. finds_same (view.List items)
+        (InItem BreaksRuleForm (view.List items))
     (BreaksForm (view.List items)) found (in_list items) (finds keys)) says)
 
 pub object_says : (v : Json) (members : List Member) (r : Result (Option (List Step)) Memory) → v ≡ view.Object members
@@ -64,14 +65,17 @@ module _ (members : List Member) where
     list_fault some is [] (inr deep) = absurd deep
     list_fault some is (step.Item index ∷ place) (inr deep) = absurd deep
     list_fault None is (step.Member key ∷ place) (inr deep) =
-        absurd (let Q : Option Json → Type 0 = λ o. IsSomeAnd o (λ w. Here (λ v. is_list v ≡ false) w place) in subst Q is deep.1)
+        absurd (let Q : Option Json → Type 0 = λ o. IsSomeAnd o (λ w. Here (λ v. is_list v ≡ false) w place) in subst
+            Q is deep.1)
     list_fault (Some w) is (step.Member key ∷ place) (inr deep) =
         let fault : (place ≡ []) × (is_list w ≡ false) =
         some_and (value_of (codes "constraints") (members_of (view.Object members)))
         (λ v. Here (λ u. is_list u ≡ false) v place) w is deep.1 in
-        (w, refl, fault.1, ap (λ k. step.Member k ∷ place) deep.0 ∙ ap (λ p. step.Member (codes "constraints") ∷ p) fault.0)
+        (w, refl, fault.1, ap (λ k. step.Member k ∷ place) deep.0 ∙ ap (λ p. step.Member (codes "constraints") ∷ p)
+            fault.0)
 
-    value_is : value_of (codes "constraints") (members_of (view.Object members)) ≡ value_of (codes "constraints") members
+    value_is : value_of (codes "constraints") (members_of (view.Object members))
+        ≡ value_of (codes "constraints") members
     value_is = ap (value_of (codes "constraints")) (members_of_object members)
 
     pub a_list : some_is is_list (value_of (codes "constraints") members) ≡ true
@@ -101,6 +105,7 @@ module _ (members : List Member) where
     not_a_list none new new_is = record {
       named = let Q : List Step → Type 0 = BreaksRuleForm (view.Object members) in subst Q (sym new_is)
           (no_list_at (value_of (codes "constraints") members) refl none);
-      first = λ other broken. let fault = list_fault (value_of (codes "constraints") (members_of (view.Object members))) refl
+      first = λ other broken. let fault = list_fault (value_of (codes "constraints")
+          (members_of (view.Object members))) refl
           other broken in inl (fault.3 ∙ sym new_is);
     }

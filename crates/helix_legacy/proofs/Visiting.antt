@@ -30,7 +30,8 @@ tests_in_parts role next v sound parts [] = ((λ h. absurd h), (λ h. absurd (cc
 tests_in_parts role next v sound parts (step ∷ place) = (
   (λ h. inr (and_some (role_of_parts role v) (λ r. IsSomeAnd (part v step) (λ w. BreaksTests r w place)) next parts h)),
   (λ h. ⊎_elim (λ fault. absurd (cc))
-      (λ deep. some_and (role_of_parts role v) (λ r. IsSomeAnd (part v step) (λ w. BreaksTests r w place)) next parts deep) h),
+      (λ deep. some_and (role_of_parts role v) (λ r. IsSomeAnd (part v step) (λ w. BreaksTests r w place)) next parts
+          deep) h),
 )
 
 none_and : {A : Type 0} (o : Option A) (P : A → Type 0) → o ≡ None → ¬ (IsSomeAnd o P)
@@ -42,7 +43,8 @@ tests_own : (role : Role) (v : Json) → role_of_parts role v ≡ None
 tests_own role v parts [] = ((λ h. h), (λ h. h))
 tests_own role v parts (step ∷ place) = (
   (λ h. ⊎_elim (λ fault. fault)
-      (λ deep. absurd (none_and (role_of_parts role v) (λ r. IsSomeAnd (part v step) (λ w. BreaksTests r w place)) parts deep)) h),
+      (λ deep. absurd (none_and (role_of_parts role v) (λ r. IsSomeAnd (part v step) (λ w. BreaksTests r w place))
+          parts deep)) h),
   (λ h. inl h),
 )
 
@@ -72,18 +74,21 @@ pub operands_finds : (members : List Member) (found : Option (List Step)) → fo
     → Finds (view.Object members) (BreaksTests one (view.Object members)) found
 operands_finds members found is = finds_same (view.Object members) (InPart (BreaksTests one) (view.Object members))
     (BreaksTests one (view.Object members)) found
-    (tests_in_parts one one (view.Object members) (fault_is members form.Operands is) (role_is members form.Operands is))
+    (tests_in_parts one one (view.Object members) (fault_is members form.Operands is)
+        (role_is members form.Operands is))
 
 pub branches_finds : (members : List Member) (found : Option (List Step)) → form_of members ≡ form.Branches
     → Finds (view.Object members) (InPart (BreaksTests many) (view.Object members)) found
     → Finds (view.Object members) (BreaksTests one (view.Object members)) found
 branches_finds members found is = finds_same (view.Object members) (InPart (BreaksTests many) (view.Object members))
     (BreaksTests one (view.Object members)) found
-    (tests_in_parts one many (view.Object members) (fault_is members form.Branches is) (role_is members form.Branches is))
+    (tests_in_parts one many (view.Object members) (fault_is members form.Branches is)
+        (role_is members form.Branches is))
 
 nothing_own : (role : Role) (v : Json) → role_of_parts role v ≡ None → own_fault role v ≡ None
     → Finds v (BreaksTests role v) None
-nothing_own role v parts own place h = let fault : own_fault role v ≡ Some place = (tests_own role v parts place).0 h in cc
+nothing_own role v parts own place h = let fault : own_fault role v
+    ≡ Some place = (tests_own role v parts place).0 h in cc
 
 pub other_finds : (members : List Member) → form_of members ≡ form.Other
     → Finds (view.Object members) (BreaksTests one (view.Object members)) None
@@ -116,7 +121,8 @@ pub list_finds : (items : List Json) (found : Option (List Step))
 list_finds items found in_items = finds_same (view.List items) (InPart (BreaksTests one) (view.List items))
     (BreaksTests many (view.List items)) found
     (tests_in_parts many one (view.List items) refl refl)
-    (finds_same (view.List items) (InItem (BreaksTests one) (view.List items)) (InPart (BreaksTests one) (view.List items))
+    (finds_same (view.List items) (InItem (BreaksTests one) (view.List items)) (InPart (BreaksTests one)
+        (view.List items))
     found (items_same items) in_items)
 
 -- the same of the answers of calls

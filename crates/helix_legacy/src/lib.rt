@@ -7,10 +7,11 @@
 //! rule_number(&json, &name)           // of the older value: Some(1) for the first rule
 //! ```
 //!
-//! [`is_older`] says whether a value is an object with the member `rules`. [`today`] gives today's form of such a value,
-//! and then no rule of the older form is broken; or the first of the rules L1 to L4 that is, with the pointer of its first
-//! place in the text. Running out of memory breaks none. [`rule_number`] finds a rule by its name; [`rule_count`] tells
-//! whether there are few enough. [`Place`] and [`pointer_of`] serve any rule that names places in a JSON value.
+//! [`is_older`] says whether a value is an object with the member `rules`. [`today`] gives today's form of such a
+//! value, and then no rule of the older form is broken; or the first of the rules L1 to L4 that is, with the pointer of
+//! its first place in the text. Running out of memory breaks none. [`rule_number`] finds a rule by its name;
+//! [`rule_count`] tells whether there are few enough. [`Place`] and [`pointer_of`] serve any rule that names places in a
+//! JSON value.
 //!
 //! No clause says what a call costs: `today` looks at each part of the value a fixed number of times, but compares each
 //! rule's name with all earlier ones; recursion is as deep as the value is nested. The questions take no memory.

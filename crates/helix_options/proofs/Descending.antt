@@ -103,7 +103,8 @@ module _ (nullable : List Bool) (branches new : List Branch) (last : Branch) (ot
   now = ap (found_by_all nullable) replaced
       ∙ found_by_all-append nullable (take (length branches - 1) branches) others
 
-  pub first_taken : (path : List Literal) → FirstPath (found_by nullable last) (Some path) (found_by_all nullable others)
+  pub first_taken : (path : List Literal) → FirstPath (found_by nullable last) (Some path)
+      (found_by_all nullable others)
       → paths_left nullable branches ≡ path ∷ paths_left nullable new
   first_taken path first = ap (λ found. found.paths) was
       ∙ (ap (λ paths. paths ++ (found_by_all nullable (take (length branches - 1) branches)).paths) first

@@ -1,4 +1,5 @@
--- Of the paths that a search finds, one holds where the literals so far, the tree and what comes after it hold, and none
+-- Of the paths that a search finds, one holds where the literals so far, the tree and what comes after it hold, and
+-- none
 -- does elsewhere.
 use Rattle.std.proofs.Common.{◌≡◌, ◌↔◌, ℕ, ◌+◌, Bool, true, false, not, ◌&&◌, ◌||◌, MatchBool, List, [], ◌∷◌, ◌++◌, refl, sym, ap, ◌∙◌, zero-add, add-zero, add_assoc}
 use Rattle.std.proofs.lemmas.Bool.{false≢true}
@@ -35,7 +36,8 @@ holding-append row (path ∷ paths) more = ap (λ n. bit (path_true row path) + 
 
 -- what comes after some literals holds once where they hold and a fact does
 abbrev pub Counts : List Cell → Bool → (List Literal → Found) → Type 0
-Counts row fact rest = (literals : List Literal) → holding row (rest literals).paths ≡ bit (path_true row literals && fact)
+Counts row fact rest = (literals : List Literal) → holding row (rest literals).paths
+    ≡ bit (path_true row literals && fact)
 
 -- a standing chooses right
 chosen : (standing : Standing) (so_far one after : Bool) → Says standing so_far one → (a b c : ℕ)
@@ -180,8 +182,10 @@ module _ (nullable : List Bool) (row : List Cell) (fits : Fits nullable row) whe
       (literal_true row (Joined relation sign true)) (path_true row literals) fact
       (true_is _ (dec_literal (Null relation.left) row)) (false_is _ (dec_literal (NotNull relation.left) row))
       (true_is _ (dec_literal (Null relation.right) row))
-      (decided-true (dec_literal (Joined relation sign false) row), true-decided (dec_literal (Joined relation sign false) row))
-      (decided-true (dec_literal (Joined relation sign true) row), true-decided (dec_literal (Joined relation sign true) row)))
+      (decided-true (dec_literal (Joined relation sign false) row), true-decided
+          (dec_literal (Joined relation sign false) row))
+      (decided-true (dec_literal (Joined relation sign true) row), true-decided
+          (dec_literal (Joined relation sign true) row)))
     where
       not_left : List Literal → Found
       not_left = λ more. with_literal nullable (NotNull relation.left) more rest

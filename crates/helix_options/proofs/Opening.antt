@@ -156,7 +156,8 @@ module _ (profile : Content) (part : Partition) where
   same_inside : {T : Type 0} (x y : T) → Some x ≡ Some y → x ≡ y
   same_inside x y e = cc e
 
-  got : {T : Type 0} (P : T → Type 0) (xs : List T) (n : ℕ) (x : T) → AllByRecursion P xs → slice_get xs n ≡ Some x → P x
+  got : {T : Type 0} (P : T → Type 0) (xs : List T) (n : ℕ) (x : T) → AllByRecursion P xs → slice_get xs n ≡ Some x
+      → P x
   got P [] n x all is = cc is
   got P (first ∷ xs) zero x all is = subst P (same_inside first x is) all.0
   got P (first ∷ xs) (suc n) x all is = got P xs n x all.1 is

@@ -23,7 +23,8 @@ one_inside nullable other sign literals rest = nothing
 each-All : (nullable : List Bool) (parts : List Tree) (sign : Bool) (literals : List Literal)
     (rest : List Literal → Found)
     → each_of nullable parts sign literals rest ≡ each_inside nullable (All parts) sign literals rest
-unfolding each_inside Rattle.helix_tree.specs.declared.tree.Tree.TheBlock.hidden-the_row-Tree-0 denote.Hole.Carrier.hidden
+unfolding each_inside Rattle.helix_tree.specs.declared.tree.Tree.TheBlock.hidden-the_row-Tree-0
+    denote.Hole.Carrier.hidden
 each-All nullable [] sign literals rest = refl
 each-All nullable (part ∷ parts) sign literals rest =
     ap (search nullable part sign literals) (fun_ext (λ more. each-All nullable parts sign more rest))
@@ -31,7 +32,8 @@ each-All nullable (part ∷ parts) sign literals rest =
 each-Any : (nullable : List Bool) (parts : List Tree) (sign : Bool) (literals : List Literal)
     (rest : List Literal → Found)
     → each_of nullable parts sign literals rest ≡ each_inside nullable (Any parts) sign literals rest
-unfolding each_inside Rattle.helix_tree.specs.declared.tree.Tree.TheBlock.hidden-the_row-Tree-0 denote.Hole.Carrier.hidden
+unfolding each_inside Rattle.helix_tree.specs.declared.tree.Tree.TheBlock.hidden-the_row-Tree-0
+    denote.Hole.Carrier.hidden
 each-Any nullable [] sign literals rest = refl
 each-Any nullable (part ∷ parts) sign literals rest =
     ap (search nullable part sign literals) (fun_ext (λ more. each-Any nullable parts sign more rest))
@@ -39,7 +41,8 @@ each-Any nullable (part ∷ parts) sign literals rest =
 one-All : (nullable : List Bool) (parts : List Tree) (sign : Bool) (literals : List Literal)
     (rest : List Literal → Found)
     → one_of nullable parts sign literals rest ≡ one_inside nullable (All parts) sign literals rest
-unfolding one_inside Rattle.helix_tree.specs.declared.tree.Tree.TheBlock.hidden-the_row-Tree-0 denote.Hole.Carrier.hidden
+unfolding one_inside Rattle.helix_tree.specs.declared.tree.Tree.TheBlock.hidden-the_row-Tree-0
+    denote.Hole.Carrier.hidden
 one-All nullable [] sign literals rest = refl
 one-All nullable (part ∷ parts) sign literals rest =
     λ i. by_standing (tree_standing nullable part sign literals) (rest literals)
@@ -50,7 +53,8 @@ one-All nullable (part ∷ parts) sign literals rest =
 one-Any : (nullable : List Bool) (parts : List Tree) (sign : Bool) (literals : List Literal)
     (rest : List Literal → Found)
     → one_of nullable parts sign literals rest ≡ one_inside nullable (Any parts) sign literals rest
-unfolding one_inside Rattle.helix_tree.specs.declared.tree.Tree.TheBlock.hidden-the_row-Tree-0 denote.Hole.Carrier.hidden
+unfolding one_inside Rattle.helix_tree.specs.declared.tree.Tree.TheBlock.hidden-the_row-Tree-0
+    denote.Hole.Carrier.hidden
 one-Any nullable [] sign literals rest = refl
 one-Any nullable (part ∷ parts) sign literals rest =
     λ i. by_standing (tree_standing nullable part sign literals) (rest literals)

@@ -167,7 +167,8 @@ module _ (nullable : List Bool) (branch : Branch) (others : List Branch) where
   some_search parts false literals after = sym (search-All-minus nullable parts literals after)
 
   abbrev chosen_of : List Tree → Bool → Found
-  chosen_of parts sign = both (one_step (one_of nullable parts sign branch.literals rest)) (found_by_all nullable others)
+  chosen_of parts sign = both (one_step (one_of nullable parts sign branch.literals rest))
+      (found_by_all nullable others)
 
   -- the demand of a tree of which some part has to hold
   pub one_goes_on : (demand : Demand) (parts : List Tree) (sign : Bool) (new : Found)

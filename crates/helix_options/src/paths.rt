@@ -87,7 +87,8 @@ impl Paths {
 /// Puts branches in the place of the last one. On `Err`, memory ran out, and they are as they were.
 fn replace_last(branches: &mut Vec<Branch>, mut others: Vec<Branch>) -> Result<(), Memory>
     requires { 1 ≤ length branches.old.items }
-    ensures ok { OnOk result (branches.new.items ≡ take (length branches.old.items - 1) branches.old.items ++ others.items) }
+    ensures ok { OnOk result (branches.new.items
+        ≡ take (length branches.old.items - 1) branches.old.items ++ others.items) }
     ensures err { OnErr result (branches.new.items ≡ branches.old.items) }
 {
     let last = branches.len() - 1;

@@ -63,7 +63,8 @@ module _ (words : WordSet) where
           (rest_of_word words other other_is)) before
 
   -- no length, no word
-  pub long_none : (from : ℕ) → HasNoLengthFrom words from → (word : List ℕ) → IsWord words word → ¬ (IsLongFrom from word)
+  pub long_none : (from : ℕ) → HasNoLengthFrom words from → (word : List ℕ) → IsWord words word
+      → ¬ (IsLongFrom from word)
   long_none from none word is high = none (length word) (length_of_word words word is) high
 
   module _ (text : List ℕ) (allowed : IsLengthOf words (length text)) where
@@ -141,7 +142,8 @@ module _ (words : WordSet) where
         least.least other is (omega (arith, long, short, least.admitted.0), from) less;
   }
 
-  module _ (strict : Bool) (text : List ℕ) (none : (word : List ℕ) → IsWord words word → ¬ (IsAlikeFrom strict text word)) where
+  module _ (strict : Bool) (text : List ℕ) (none : (word : List ℕ) → IsWord words word
+      → ¬ (IsAlikeFrom strict text word)) where
     pub longer : (word : List ℕ) → IsWord words word → IsFrom strict (cell.Text text) word
         → IsLongFrom (length text + 1) word
     longer word is from =
@@ -160,7 +162,8 @@ module _ (words : WordSet) where
     }
 
     -- what is left for longer words
-    pub longer_answer : (found : Bool) (old new : Cell) → IsWordAnswer words (IsLongFrom (length text + 1)) found old new
+    pub longer_answer : (found : Bool) (old new : Cell) → IsWordAnswer words (IsLongFrom (length text + 1)) found old
+        new
         → IsWordAnswer words (IsFrom strict (cell.Text text)) found old new
     longer_answer true old new puts =
         record { word = puts.word; is = puts.is; is_least = longer_least puts.word puts.is_least }

@@ -24,7 +24,8 @@ module _ (automaton : Automaton) (word : List ℕ) where
     pub goes_on : LeadsToRest automaton state (length word - place - 1) step
     pub is_rest : IsRest automaton step.to (length word - place - 1) tail
 
-  pub through : (place state : ℕ) (other : List ℕ) → place < length word → LeadsAlong automaton 0 (take place word) state
+  pub through : (place state : ℕ) (other : List ℕ) → place < length word
+      → LeadsAlong automaton 0 (take place word) state
       → IsRest automaton 0 (length word) other → take place other ≡ take place word → Through place state other
   through place state other within path is same =
       let split : other ≡ take place word ++ drop place other =
@@ -49,7 +50,8 @@ module _ (automaton : Automaton) (word : List ℕ) where
         is_rest = b.is_rest;
       }
 
-  module _ (place state : ℕ) (within : place < length word) (path : LeadsAlong automaton 0 (take place word) state) where
+  module _ (place state : ℕ) (within : place < length word) (path : LeadsAlong automaton 0 (take place word) state)
+      where
     -- no character above the one at the place leads on
     abbrev pub NoneAbove : Type 0
     NoneAbove = (other : Step) → LeadsToRest automaton state (length word - place - 1) other
@@ -61,7 +63,8 @@ module _ (automaton : Automaton) (word : List ℕ) where
     differs_before none other above same = by (differs word other place above.is_rest.long within above.above)
       where
         by : Differs word other place → take (place + 1) other ≡ take (place + 1) word
-        by (earlier before) = absurd (not_itself (take place word) (subst (λ l. IsBefore (take place word) l) same before))
+        by (earlier before) = absurd (not_itself (take place word) (subst (λ l. IsBefore (take place word) l) same
+            before))
         by (here alike less) =
             let t = through place state other within path above.is_rest same in
             absurd (none t.step t.goes_on (omega (arith, less, t.character)))
@@ -94,12 +97,15 @@ module _ (automaton : Automaton) (word : List ℕ) where
 
         above_word : IsAbove automaton word (take place word ++ step.character ∷ rest)
         above_word =
-            let after = rest_after automaton state (length word - place - 1) step rest least.goes_on is.is_rest in record {
+            let after = rest_after automaton state (length word - place - 1) step rest least.goes_on is.is_rest in
+                record {
               is_rest = record {
-                characters = All-append IsCharacter (take place word) (step.character ∷ rest) characters after.characters;
+                characters = All-append IsCharacter (take place word) (step.character ∷ rest) characters
+                    after.characters;
                 long = omega
                     (arith, length-append (take place word) (step.character ∷ rest), long_prefix, after.long, within);
-                accepted = accepted_along automaton (take place word) (step.character ∷ rest) 0 state path after.accepted;
+                accepted = accepted_along automaton (take place word) (step.character ∷ rest) 0 state path
+                    after.accepted;
               };
               above = subst (λ l. IsBefore l (take place word ++ step.character ∷ rest))
                   (sym (split_at word place within))
@@ -141,7 +147,8 @@ module _ (automaton : Automaton) (word : List ℕ) where
 
       pub branch_here : IsBranchBefore automaton word (place + 1) (record { place = place; step = step })
       branch_here = record {
-        steps_off = record { within = within; state = state; reached = path; goes_on = least.goes_on; to_within = least.to_within };
+        steps_off = record { within = within; state = state; reached = path; goes_on = least.goes_on; to_within
+            = least.to_within };
         least = λ rest is. record { is_above = above_word rest is; least = not_less rest is };
       }
 

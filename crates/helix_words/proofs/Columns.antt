@@ -36,7 +36,8 @@ module _ (automaton : Automaton) (form : IsWellFormed automaton) where
 
   -- an arc to a state with a rest is the beginning of a longer rest
   longer : (count state : ℕ) → state < length automaton.moves
-      → ((other : ℕ) → other < length automaton.moves → HasFlag (column automaton count) other ↔ HasRest automaton other count)
+      → ((other : ℕ) → other < length automaton.moves → HasFlag (column automaton count) other
+          ↔ HasRest automaton other count)
       → HasFlag (column automaton (suc count)) state ↔ HasRest automaton state (suc count)
   longer count state within so_far = (to, from)
     where
@@ -46,7 +47,8 @@ module _ (automaton : Automaton) (form : IsWellFormed automaton) where
       flags : List Bool
       flags = column automaton count
 
-      here : get_or (column automaton (suc count)) state false ≡ leads_to (column automaton count) (get_or automaton.moves state [])
+      here : get_or (column automaton (suc count)) state false ≡ leads_to (column automaton count)
+          (get_or automaton.moves state [])
       here = get_or-map (leads_to (column automaton count)) automaton.moves state [] false within
 
       to : HasFlag (column automaton (suc count)) state → HasRest automaton state (suc count)

@@ -19,7 +19,8 @@ pub record IsBegun (automaton : Automaton) (start count done state : ℕ) (so_fa
       → IsLeastRest automaton start count (so_far ++ rest)
 
 module _ (automaton : Automaton) (start count : ℕ) where
-  pub begun_none : start < length automaton.moves → HasRest automaton start count → IsBegun automaton start count 0 start []
+  pub begun_none : start < length automaton.moves → HasRest automaton start count
+      → IsBegun automaton start count 0 start []
   begun_none within rest =
       let all : count ≡ count - 0 = omega arith in record {
         long = refl;
@@ -92,7 +93,8 @@ room_left (cell.Moment at) so_far count room less = room
 module _ (automaton : Automaton) (start count : ℕ) (old : Cell) where
   pub slot_none : start < length automaton.moves → HasRest automaton start count
       → SlotBegun automaton start count 0 start old old
-  slot_none within rest = record { so_far = []; is = with_nil old; begun = begun_none automaton start count within rest }
+  slot_none within rest = record { so_far = []; is = with_nil old; begun = begun_none automaton start count within
+      rest }
 
   module _ (done state : ℕ) (new : Cell) (begun : SlotBegun automaton start count done state old new) where
     pub slot_room : HasRoomForMore count old → done < count → HasRoom new

@@ -33,7 +33,8 @@ module _ (words : WordSet) (state code rest : ℕ) (short : rest < words.longest
   -- the first of the arcs is the only one that may hold the code
   first_holds : (to : ℕ) → LeadsToRest words.automaton state rest (record { character = code; to = to })
       → (d : Arc) → (0 < length arcs) × (holds code (get_or arcs 0 d) ≡ true) × ((get_or arcs 0 d).to ≡ to)
-  first_holds to goes d = by ((on.are code rest (omega arith) short).all (record { character = code; to = to }) goes (omega arith))
+  first_holds to goes d = by ((on.are code rest (omega arith) short).all (record { character = code; to = to }) goes
+      (omega arith))
     where
       by : IsHeld code arcs → (0 < length arcs) × (holds code (get_or arcs 0 d) ≡ true) × ((get_or arcs 0 d).to ≡ to)
       by (zero, within, holding) = (
@@ -80,21 +81,25 @@ module _ (words : WordSet) (state code rest : ℕ) (short : rest < words.longest
       along = tt;
       within = tt;
       stuck = λ to goes.
-          let first = first_holds to goes d in dead (subst (λ s. HasRest words.automaton s rest) (sym first.2) goes.has_rest);
+          let first = first_holds to goes d in dead (subst (λ s. HasRest words.automaton s rest)
+              (sym first.2) goes.has_rest);
       above = steps state (arcs_after words.automaton state (code + 1) rest arcs above
-          (arc_dead words.automaton (code + 1) rest arcs 0 d within (arcs_begun words.automaton (code + 1) rest arcs) dead
+          (arc_dead words.automaton (code + 1) rest arcs 0 d within (arcs_begun words.automaton (code + 1) rest arcs)
+              dead
           state above));
     }
 
     module _ (has : HasRest words.automaton (get_or arcs 0 d).to rest) (along : Option ℕ)
-        (some : IfSome along (λ to. (to ≡ (get_or arcs 0 d).to) × IsCharacter code × (holds code (get_or arcs 0 d) ≡ true)))
+        (some : IfSome along (λ to. (to ≡ (get_or arcs 0 d).to) × IsCharacter code × (holds code (get_or arcs 0 d)
+            ≡ true)))
         (none : IfNone along (IsCharacter code → ¬ (holds code (get_or arcs 0 d) ≡ true))) where
       forked : (step : Option Step) → IsStepFrom words.automaton state (code + 1) rest step
           → IsFork words.automaton state code rest (record { along = along; above = step })
       forked step steps = by along some none
         where
           by : (along : Option ℕ)
-              → IfSome along (λ to. (to ≡ (get_or arcs 0 d).to) × IsCharacter code × (holds code (get_or arcs 0 d) ≡ true))
+              → IfSome along (λ to. (to ≡ (get_or arcs 0 d).to) × IsCharacter code × (holds code (get_or arcs 0 d)
+                  ≡ true))
               → IfNone along (IsCharacter code → ¬ (holds code (get_or arcs 0 d) ≡ true))
               → IsFork words.automaton state code rest (record { along = along; above = step })
           by None some none = record {
@@ -105,7 +110,8 @@ module _ (words : WordSet) (state code rest : ℕ) (short : rest < words.longest
           }
           by (Some to) (is, character, holding) none =
               let arc = on.each 0 d within in record {
-                along = subst (λ s. LeadsToRest words.automaton state rest (record { character = code; to = s })) (sym is)
+                along = subst (λ s. LeadsToRest words.automaton state rest (record { character = code; to = s }))
+                    (sym is)
                     (record { is_character = character; leads = arc.leads code holding; has_rest = has });
                 within = omega (arith, arc.within, is);
                 stuck = tt;
@@ -129,7 +135,8 @@ module _ (words : WordSet) (state code rest : ℕ) (short : rest < words.longest
           → IsFork words.automaton state code rest (record { along = along; above = step })
       fork_later empty step steps = forked step (steps state
           (arcs_after words.automaton state (code + 1) rest arcs above
-          (arc_empty words.automaton (code + 1) rest arcs 0 d within (arcs_begun words.automaton (code + 1) rest arcs) empty
+          (arc_empty words.automaton (code + 1) rest arcs 0 d within (arcs_begun words.automaton (code + 1) rest arcs)
+              empty
           state above)))
 
     -- the first arc holds the next code too
@@ -146,7 +153,8 @@ module _ (words : WordSet) (state code rest : ℕ) (short : rest < words.longest
         ) tt (code + 1) (record {
           is_character = printable (code + 1) (omega (arith, goes.printable)) (omega (arith, goes.next_printable));
           reached = omega arith;
-          held = held_within (code + 1) (get_or arcs 0 d) (omega (arith, goes.first_low)) (omega (arith, goes.last_high));
+          held = held_within (code + 1) (get_or arcs 0 d) (omega (arith, goes.first_low))
+              (omega (arith, goes.last_high));
           least = λ other character high holding. high;
         })
 
@@ -160,7 +168,8 @@ module _ (automaton : Automaton) (state code rest : ℕ) (fork : Fork) (is : IsF
   pub fork_along : (next : ℕ) → fork.along ≡ Some next
       → LeadsToRest automaton state rest (record { character = code; to = next })
   fork_along next some =
-      subst (λ along. IfSome along (λ to. LeadsToRest automaton state rest (record { character = code; to = to }))) some is.along
+      subst (λ along. IfSome along (λ to. LeadsToRest automaton state rest (record { character = code; to = to })))
+          some is.along
 
   pub fork_within : (next : ℕ) → fork.along ≡ Some next → next < length automaton.moves
   fork_within next some = subst (λ along. IfSome along (λ to. to < length automaton.moves)) some is.within

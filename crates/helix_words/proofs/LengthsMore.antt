@@ -103,7 +103,8 @@ module _ (xs : List ℕ) (ascending : IsStrictlyIncreasing xs) where
       → ((k : ℕ) → i ≤ k → k < length xs → from < get_or xs k 0) → IsLeastOf xs from (slice_get xs i)
   least_inserted from i before after = elim (cases_lt i (length xs)) [
     | inl within ↦ subst (IsLeastOf xs from) (sym (slice_get-get_or xs i 0 within)) (record {
-      some = (Contains-get_or xs i 0 within, (let above = after i (omega arith) within in omega (arith, above)), least within);
+      some = (Contains-get_or xs i 0 within, (let above = after i (omega arith) within in omega (arith, above)), least
+          within);
       none = tt;
     })
     | inr past ↦ subst (IsLeastOf xs from) (sym (slice_get_past xs i past)) (record { some = tt; none = none past })
@@ -127,10 +128,12 @@ module _ (xs : List ℕ) (ascending : IsStrictlyIncreasing xs) where
           let there = from_there other has.0 has.1 has.2 high in omega (arith, there, past, has.1)
 
   -- the last number is the greatest
-  pub last_greatest : (other : ℕ) → Contains xs other → (last : ℕ) → slice_get xs (length xs - 1) ≡ Some last → other ≤ last
+  pub last_greatest : (other : ℕ) → Contains xs other → (last : ℕ) → slice_get xs (length xs - 1) ≡ Some last
+      → other ≤ last
   last_greatest other has last is =
       let within : length xs - 1 < length xs = omega (arith, has.1) in
-      let same : Some (get_or xs (length xs - 1) 0) ≡ Some last = sym (slice_get-get_or xs (length xs - 1) 0 within) ∙ is in
+      let same : Some (get_or xs (length xs - 1) 0) ≡ Some last = sym (slice_get-get_or xs (length xs - 1) 0 within)
+          ∙ is in
       let at : get_or xs (length xs - 1) 0 ≡ last = cc in
       let rise = rising has.0 (length xs - 1) (omega (arith, has.1)) within in
       omega (arith, rise, at, get_or_default xs has.0 0 other has.1, has.2)
@@ -147,7 +150,8 @@ module _ (words : WordSet) (count : ℕ) where
   has_by_none none = ((λ same. cc), (λ allowed. absurd (none count allowed (omega arith))))
 
 -- what is found among the lengths of words
-module _ (words : WordSet) (lengths : List ℕ) (are : AreLengths (IsLengthOf words) lengths) (short : words.longest ≤ 1000)
+module _ (words : WordSet) (lengths : List ℕ) (are : AreLengths (IsLengthOf words) lengths)
+    (short : words.longest ≤ 1000)
     (start : 0 < length words.automaton.moves) (from : ℕ) (answer : Option ℕ) (is : IsLeastOf lengths from answer) where
   pub length_found : IfSome answer (IsLengthFrom words from)
   length_found = by answer is

@@ -62,10 +62,12 @@ module _ (automaton : Automaton) (longest : ℕ) (table : Table) (form : IsWellF
   arcs_live state within =
       let shape = form.rows state [] within in
       record {
-        each = All-filter (λ arc. has_bit table.blocks arc.to) (IsArcFrom automaton state) (get_or automaton.moves state [])
+        each = All-filter (λ arc. has_bit table.blocks arc.to) (IsArcFrom automaton state)
+            (get_or automaton.moves state [])
             (λ k d in_row. record {
               within = shape.named k d in_row;
-              leads = λ code held. leads_at (get_or automaton.moves state []) code k d shape.in_order shape.used in_row held;
+              leads = λ code held. leads_at (get_or automaton.moves state []) code k d shape.in_order shape.used
+                  in_row held;
             });
         in_order = AllPairs-filter (λ one later. one.last < later.first) (λ arc. has_bit table.blocks arc.to)
             (get_or automaton.moves state []) (pairs_in_order _ shape.in_order shape.used);
@@ -95,5 +97,6 @@ module _ (automaton : Automaton) (longest : ℕ) (table : Table) (form : IsWellF
     as_many = are.as_many;
     rise = are.rise;
     within = are.within;
-    are = λ state within. subst (AreArcsFrom automaton longest state) (sym (are.are state within)) (arcs_live state within);
+    are = λ state within. subst (AreArcsFrom automaton longest state) (sym (are.are state within))
+        (arcs_live state within);
   }

@@ -11,7 +11,8 @@ module _ {L : Type 0} (IsNoted : L → Step → L → Type 0) where
   pub moved_round : (rounds most : ℕ) (old middle new : Tally L) → MovedAtMost IsNoted (rounds * most) old middle
       → MovedAtMost IsNoted most middle new → MovedAtMost IsNoted ((rounds + 1) * most) old new
   moved_round rounds most old middle new first second =
-      let one_more : (rounds + 1) * most ≡ rounds * most + most = add-mul rounds 1 most ∙ ap (λ n. rounds * most + n) (one-mul most) in
+      let one_more : (rounds + 1) * most ≡ rounds * most + most = add-mul rounds 1 most
+          ∙ ap (λ n. rounds * most + n) (one-mul most) in
       moved_wider IsNoted (rounds * most + most) ((rounds + 1) * most) old new (omega (arith, one_more))
       (moved_join IsNoted (rounds * most) most old middle new first second)
 
@@ -26,7 +27,8 @@ module _ {L : Type 0} (IsNoted : L → Step → L → Type 0) where
       → MovedAtMost IsNoted (rounds * most) middle new → MovedAtMost IsNoted (rounds * (2 * most)) old new
   moved_twice rounds most old middle new first second =
       let sum : 2 * most ≡ most + most = omega arith in
-      let is : rounds * (2 * most) ≡ rounds * most + rounds * most = ap (λ n. rounds * n) sum ∙ mul-add rounds most most in
+      let is : rounds * (2 * most) ≡ rounds * most + rounds * most = ap (λ n. rounds * n) sum
+          ∙ mul-add rounds most most in
       moved_wider IsNoted (rounds * most + rounds * most) (rounds * (2 * most)) old new (omega (arith, is))
       (moved_join IsNoted (rounds * most) (rounds * most) old middle new first second)
 
@@ -47,9 +49,11 @@ module _ {L : Type 0} (IsNoted : L → Step → L → Type 0) where
       (moved_fewer rounds 1000 most old middle few first) (moved_fewer more 1000 most middle new few_more second))
 
   -- one move, where there may be some
-  pub moved_first : (most : ℕ) (old new : Tally L) → 0 < most → IsMove IsNoted old new → MovedAtMost IsNoted most old new
+  pub moved_first : (most : ℕ) (old new : Tally L) → 0 < most → IsMove IsNoted old new
+      → MovedAtMost IsNoted most old new
   moved_first most old new some one =
-      moved_wider IsNoted 1 most old new (omega (arith, some)) (moved_more IsNoted 0 old old new (moved_none IsNoted 0 old) one)
+      moved_wider IsNoted 1 most old new (omega (arith, some)) (moved_more IsNoted 0 old old new
+          (moved_none IsNoted 0 old) one)
 
   -- one move for the first of some arcs, and some for those after it
   pub moved_on : (count later most : ℕ) (old middle new : Tally L) → 0 < count → count ≤ most → later ≡ count - 1

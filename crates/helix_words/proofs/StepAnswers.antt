@@ -23,7 +23,8 @@ module _ (words : WordSet) (state code : ℕ) (row reaching : List Arc)
 
   each : (i : ℕ) (d : Arc) → i < length reaching → IsArcFrom words.automaton state (get_or reaching i d)
   each i d within =
-      subst (IsArcFrom words.automaton state) (sym (read i d)) (are.each (reach.skipped + i) d (omega (arith, left, within)))
+      subst (IsArcFrom words.automaton state) (sym (read i d)) (are.each (reach.skipped + i) d
+          (omega (arith, left, within)))
 
   where_held : (from : ℕ) (other : Step) → code ≤ from → from ≤ other.character → (arc : Arc) (k : ℕ) → k < length row
       → get_or row k arc ≡ arc → holds other.character arc ≡ true → IsHeld other.character reaching
@@ -49,7 +50,8 @@ module _ (words : WordSet) (state code : ℕ) (row reaching : List Arc)
     are = λ from rest low short. record {
       each = each;
       in_order = λ i j d less within.
-          let order = are.in_order (reach.skipped + i) (reach.skipped + j) d (omega (arith, less)) (omega (arith, left, within)) in
+          let order = are.in_order (reach.skipped + i) (reach.skipped + j) d (omega (arith, less))
+              (omega (arith, left, within)) in
           omega (arith, order, ap (λ (a : Arc). a.last) (read i d), ap (λ (a : Arc). a.first) (read j d));
       all = λ other goes high.
           let (arc, has, holding) = are.all other.character other.to rest goes.leads short goes.has_rest in
@@ -72,11 +74,13 @@ module _ (automaton : Automaton) (from rest : ℕ) (arcs : List Arc) where
     at : get_or arcs i (get_or arcs i d) ≡ get_or arcs i d
     at = get_or_default arcs i (get_or arcs i d) d within
 
-    pub arc_found : (character : ℕ) → HasRest automaton (get_or arcs i d).to rest → IsLeastIn (get_or arcs i d) from character
+    pub arc_found : (character : ℕ) → HasRest automaton (get_or arcs i d).to rest
+        → IsLeastIn (get_or arcs i d) from character
         → (state : ℕ) → AreArcsTo automaton state from rest arcs
         → IsStepFrom automaton state from rest (Some (record { character = character; to = (get_or arcs i d).to }))
     arc_found character has least state are = record {
-      some = step_found automaton state from rest arcs are i (get_or arcs i d) within at (passed state are) character has least;
+      some = step_found automaton state from rest arcs are i (get_or arcs i d) within at (passed state are) character
+          has least;
       none = tt;
     }
 

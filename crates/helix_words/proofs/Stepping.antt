@@ -24,7 +24,8 @@ Passed automaton state from rest arcs bound = (i : ℕ) (d : Arc) → i < bound 
     → LeadsToRest automaton state rest other → from ≤ other.character
     → ¬ (holds other.character (get_or arcs i d) ≡ true)
 
-module _ (automaton : Automaton) (state from rest : ℕ) (arcs : List Arc) (are : AreArcsTo automaton state from rest arcs) where
+module _ (automaton : Automaton) (state from rest : ℕ) (arcs : List Arc) (are : AreArcsTo automaton state from rest
+    arcs) where
   -- before the first arc
   pub passed_none : Passed automaton state from rest arcs 0
   passed_none i d less = absurd (omega (arith, less))

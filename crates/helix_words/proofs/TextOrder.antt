@@ -19,7 +19,8 @@ shorter_less a b less = then_less (nat_cmp (length a) (length b)) (slice_cmp nat
 
 -- texts of one length are compared by their characters
 pub alike_cmp : (a b : List ℕ) → length a ≡ length b → text_cmp a b ≡ slice_cmp nat_cmp a b
-alike_cmp a b same = ap (λ o. ordering_then o (slice_cmp nat_cmp a b)) (sym (nat_cmp_is (length a) (length b) Equal same))
+alike_cmp a b same = ap (λ o. ordering_then o (slice_cmp nat_cmp a b))
+    (sym (nat_cmp_is (length a) (length b) Equal same))
 
 -- a text is less that is shorter, or as long and less by its characters
 pub less_cases : (a b : List ℕ) → CellLess (cell.Text a) (cell.Text b)

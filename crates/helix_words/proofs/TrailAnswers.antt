@@ -47,7 +47,8 @@ module _ (words : WordSet) where
     takes_least new takes =
         let is_least : IsLeastWord words (IsWordAbove old.word) new.word =
         alike_first words true old.word new.word
-        (branch_least words old.word (length_of_word words old.word along.is_word) true not_equal new.word takes.is_least) in record {
+        (branch_least words old.word (length_of_word words old.word along.is_word) true not_equal new.word
+            takes.is_least) in record {
           along = record { is_word = is_least.is_word; along = takes.along };
           room = takes.room;
           is_least = is_least;
@@ -86,8 +87,10 @@ module _ (automaton : Automaton) (old : Along) (along : AreAlong automaton old.w
   prefix_long = length-take-le branch.place old.word (omega (arith, is.steps_off.within))
 
   state_there : is.steps_off.state ≡ slice_index old.states branch.place
-  state_there = along_once automaton (take branch.place old.word) 0 is.steps_off.state (slice_index old.states branch.place)
-      is.steps_off.reached (along_path automaton old.word old.states along branch.place (omega (arith, is.steps_off.within)))
+  state_there = along_once automaton (take branch.place old.word) 0 is.steps_off.state
+      (slice_index old.states branch.place)
+      is.steps_off.reached (along_path automaton old.word old.states along branch.place
+          (omega (arith, is.steps_off.within)))
 
   pub turned_along : AreAlong automaton (take branch.place old.word ++ branch.step.character ∷ [])
       (take (branch.place + 1) old.states ++ branch.step.to ∷ [])
@@ -95,10 +98,12 @@ module _ (automaton : Automaton) (old : Along) (along : AreAlong automaton old.w
       along_push automaton (take branch.place old.word) (take (branch.place + 1) old.states)
       (along_take automaton old.word old.states along branch.place (omega (arith, is.steps_off.within)))
       branch.step.character branch.step.to
-      (subst (λ n. Leads automaton (slice_index (take (branch.place + 1) old.states) n) branch.step.character branch.step.to)
+      (subst (λ n. Leads automaton (slice_index (take (branch.place + 1) old.states) n) branch.step.character
+          branch.step.to)
       (sym prefix_long)
       (subst (λ s. Leads automaton s branch.step.character branch.step.to)
-      (state_there ∙ sym (get_or-take (branch.place + 1) old.states branch.place 0 (omega arith))) is.steps_off.goes_on.leads))
+      (state_there ∙ sym (get_or-take (branch.place + 1) old.states branch.place 0 (omega arith)))
+          is.steps_off.goes_on.leads))
 
   pub turned_state : slice_index (take (branch.place + 1) old.states ++ branch.step.to ∷ [])
       (length (take branch.place old.word ++ branch.step.character ∷ [])) ≡ branch.step.to

@@ -67,7 +67,8 @@ fn put_alike<L: Ledger>(
     requires length { IsLengthOf words.now (length word.now) }
     ensures answer { IsWordAnswer words.now (IsAlikeFrom strict word.now) result out.old out.new }
     ensures moves { MovedAtMost L.IsNoted (length word.now * (2 * most_arcs words.now.automaton)) steps.old steps.new }
-    ensures few { OnFalse result (MovedAtMost L.IsNoted (length word.now * most_arcs words.now.automaton) steps.old steps.new) }
+    ensures few { OnFalse result
+        (MovedAtMost L.IsNoted (length word.now * most_arcs words.now.automaton) steps.old steps.new) }
 {
     let walk = walk_along(words, word, steps);
     if walk.accepted && !strict {

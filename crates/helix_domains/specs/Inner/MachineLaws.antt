@@ -32,7 +32,8 @@ same_spellings cells place other_place numbers other_numbers equal word =
     let parts = and_parts (eqb place other_place) (pointwise nat_eq numbers other_numbers) equal in
     let places : place ≡ other_place = eqb-true place other_place parts.0 in
     let lists : numbers ≡ other_numbers = same_text numbers other_numbers (sym parts.1) in (
-      (λ h. subst (λ p. SpellsNone cells p other_numbers word) places (subst (λ l. SpellsNone cells place l word) lists h)),
+      (λ h. subst (λ p. SpellsNone cells p other_numbers word) places (subst (λ l. SpellsNone cells place l word)
+          lists h)),
       (λ h. subst (λ p. SpellsNone cells p numbers word) (sym places)
           (subst (λ l. SpellsNone cells other_place l word) (sym lists) h)),
     )

@@ -61,4 +61,5 @@ AllAccept dfas word = All (λ dfa. Accepts dfa word) dfas
 
 -- the new automata accept of the words that the old ones accept those of which a fact holds
 abbrev pub AreNarrowed : (List ℕ → Type 0) → List Automaton → List Automaton → Type 0
-AreNarrowed Fact old new = (word : List ℕ) → All IsCharacter word → AllAccept new word ↔ (AllAccept old word × Fact word)
+AreNarrowed Fact old new = (word : List ℕ) → All IsCharacter word → AllAccept new word
+    ↔ (AllAccept old word × Fact word)

@@ -13,7 +13,8 @@ index_kept other = 0
 
 -- a slot holds the cell with an index, which is kept, or the list ends before it and both stay
 abbrev pub TakesAt : List Cell → ℕ → Bool → Cell → Cell → Near → Near → Type 0
-TakesAt cells index true old new before after = (after ≡ near.Listed index) × IsAt (listed cells) (near.Listed index) new
+TakesAt cells index true old new before after = (after ≡ near.Listed index)
+    × IsAt (listed cells) (near.Listed index) new
 TakesAt cells index false old new before after = (length cells ≤ index) × (new ≡ old) × (after ≡ before)
 
 -- what is kept is at the new cell and fits each value, or stays

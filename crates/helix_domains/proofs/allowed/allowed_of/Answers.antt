@@ -8,7 +8,8 @@ use Rattle.helix_domains.proofs.allowed.allowed_of.Goals as goal
 use Rattle.helix_domains.proofs.allowed.allowed_of.Goals.{then-is_allowed+in_ok-copy+in_ok-push, else-is_allowed}
 
 pub is_allowed-requires-clause-ready : goal.is_allowed-requires-clause-ready
-is_allowed-requires-clause-ready c = subst (AreReady c.args.atoms.now) (sym c.as_slice.ensures.value) c.in_ok-ready.ensures
+is_allowed-requires-clause-ready c = subst (AreReady c.args.atoms.now) (sym c.as_slice.ensures.value)
+    c.in_ok-ready.ensures
 
 pub is_allowed-requires-clause-chosen : goal.is_allowed-requires-clause-chosen
 is_allowed-requires-clause-chosen c =

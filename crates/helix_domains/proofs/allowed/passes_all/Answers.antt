@@ -8,12 +8,14 @@ use Rattle.helix_domains.proofs.Walks.{all_more}
 use Rattle.helix_domains.proofs.allowed.passes_all.Goals as goal
 
 pub passes-requires-clause-ready : goal.passes-requires-clause-ready
-passes-requires-clause-ready c = ready_at c.args.atoms.now c.args.ready.now c.loop-index.index c.index-atoms-index.result
+passes-requires-clause-ready c = ready_at c.args.atoms.now c.args.ready.now c.loop-index.index
+    c.index-atoms-index.result
     c.index-ready-index.result c.requires.ready c.loop-index-test.true c.index-atoms-index.is c.index-ready-index.is
 
 pub loop-index-preserved-then-is_chosen : goal.loop-index-preserved-then-is_chosen
 loop-index-preserved-then-is_chosen c =
-    (all_more (λ signed. PassesAtom signed (cell_of c.args.value)) c.args.atoms.now c.loop-index.index c.index-atoms-index.result
+    (all_more (λ signed. PassesAtom signed (cell_of c.args.value)) c.args.atoms.now c.loop-index.index
+        c.index-atoms-index.result
     c.loop-index-test.true c.index-atoms-index.is).1 (
       c.loop-index.invariant,
       chosen_at c.args.atoms.now c.args.chosen (cell_of c.args.value) c.loop-index.index c.index-atoms-index.result
@@ -22,7 +24,8 @@ loop-index-preserved-then-is_chosen c =
 
 pub loop-index-preserved : goal.loop-index-preserved
 loop-index-preserved c =
-    (all_more (λ signed. PassesAtom signed (cell_of c.args.value)) c.args.atoms.now c.loop-index.index c.index-atoms-index.result
+    (all_more (λ signed. PassesAtom signed (cell_of c.args.value)) c.args.atoms.now c.loop-index.index
+        c.index-atoms-index.result
     c.loop-index-test.true c.index-atoms-index.is).1 (c.loop-index.invariant, c.passes.ensures.0 c.if-not-passes.false)
 
 pub returns : goal.returns

@@ -12,7 +12,8 @@ returns c =
     let fits : FitsSigned w128 c.in-Some.bound = search rules in
     let answer : FitsSigned w128 c.in-Some-at_or_after.units = search rules in
     let least = simp to_z-of_z at c.in-Some-at_or_after.ensures in
-    subst (IsLeastAdmitted (IsOnLine Numbers (IsMember (ladder_on Numbers) c.args.grid.now.level c.args.grid.now.tests)) c.args.mark)
+    subst (IsLeastAdmitted (IsOnLine Numbers (IsMember (ladder_on Numbers) c.args.grid.now.level
+        c.args.grid.now.tests)) c.args.mark)
     (sym c.set.ensures)
     (simp to_z-of_z (least_on Numbers (IsMember (ladder_on Numbers) c.args.grid.now.level c.args.grid.now.tests)
     (small_member Numbers c.args.grid.now.level c.args.grid.now.tests) c.args.mark c.in-Some.bound

@@ -10,7 +10,8 @@ use Rattle.helix_domains.proofs.grids.next_number.Goals as goal
 
 pub unreachable-requires : goal.unreachable-requires
 unreachable-requires c =
-    let on = from_line Numbers (IsMember (ladder_on Numbers) c.args.grid.now.level c.args.grid.now.tests) c.args.slot.now c.requires in
+    let on = from_line Numbers (IsMember (ladder_on Numbers) c.args.grid.now.level c.args.grid.now.tests)
+        c.args.slot.now c.requires in
     c.in_default.ensures.none on.0 (c.view.ensures ∙ on.1)
 
 pub after-requires : goal.after-requires
@@ -24,9 +25,11 @@ returns-in-Some-after c =
     let fits : FitsSigned w128 c.in-Some.units = search rules in
     let answer : FitsSigned w128 c.in-Some-after.next = search rules in
     let least = simp to_z-of_z at c.in-Some-after.ensures in
-    subst (IsLeastAbove (IsOnLine Numbers (IsMember (ladder_on Numbers) c.args.grid.now.level c.args.grid.now.tests)) c.args.slot.now)
+    subst (IsLeastAbove (IsOnLine Numbers (IsMember (ladder_on Numbers) c.args.grid.now.level c.args.grid.now.tests))
+        c.args.slot.now)
     (sym c.set.ensures)
-    (simp to_z-of_z (next_on Numbers (IsMember (ladder_on Numbers) c.args.grid.now.level c.args.grid.now.tests) c.in-Some.units
+    (simp to_z-of_z (next_on Numbers (IsMember (ladder_on Numbers) c.args.grid.now.level c.args.grid.now.tests)
+        c.in-Some.units
     c.args.slot.now (sym c.view.ensures ∙ c.in-Some.ensures.some) c.in-Some-after.next least))
 
 pub returns-in-None : goal.returns-in-None

@@ -4,7 +4,8 @@ use Rattle.helix_domains.proofs.Listing.{truths_have}
 use Rattle.helix_domains.proofs.sets.truths.Goals as goal
 
 pub listed-requires-clause-all : goal.listed-requires-clause-all
-listed-requires-clause-all c = truths_have c.args.atoms.now (cell.Bool false ∷ cell.Bool true ∷ []) (0, omega arith, refl)
+listed-requires-clause-all c = truths_have c.args.atoms.now (cell.Bool false ∷ cell.Bool true ∷ [])
+    (0, omega arith, refl)
     (1, omega arith, refl)
 
 pub listed-requires-clause-chosen : goal.listed-requires-clause-chosen

@@ -7,7 +7,8 @@ use Rattle.helix_options.proofs.advance.choose.Goals as goal
 use Rattle.helix_options.proofs.advance.choose.Goals.{then-not-is_empty+in_ok-other-in-Open+in_ok-push-in-Open, else-not-is_empty}
 
 pub returns-in_ok-push-in-Refuted : goal.returns-in_ok-push-in-Refuted
-returns-in_ok-push-in-Refuted c = part_refuted c.args.nullable.now c.args.branch.now c.args.others.now.items c.args.parts
+returns-in_ok-push-in-Refuted c = part_refuted c.args.nullable.now c.args.branch.now c.args.others.now.items
+    c.args.parts
     c.remove-tree.result c.remove-tree.new.self c.args.sign _
     (head_apart c.args.parts c.remove-tree.result c.remove-tree.new.self c.remove-tree.ensures.item
     c.remove-tree.ensures.rest)

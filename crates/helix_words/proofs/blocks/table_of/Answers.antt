@@ -43,7 +43,8 @@ returns-then-are_equal c =
     c.set_bits.new.block
     (filled_set c.args.dfa.now c.loop-count.count c.loop-count.blocks c.loop-count.block.items c.set_bits.new.block
     c.loop-count.invariant.filled
-    (sets_same (c.loop-count.count % 64) (c.as_slice.ensures ∙ c.loop-count.invariant.column) c.as_mut_slice.ensures.value
+    (sets_same (c.loop-count.count % 64) (c.as_slice.ensures ∙ c.loop-count.invariant.column)
+        c.as_mut_slice.ensures.value
     c.set_bits.ensures))
     (column_from c.args.dfa.now form c.loop-count.count same c.args.longest))
 
@@ -57,13 +58,16 @@ loop-count-preserved c =
           c.in_ok-before.ensures ∙ ap (column_before c.args.dfa.now.moves)
           (c.as_slice-in-loop-count.ensures ∙ c.loop-count.invariant.column)
           ∙ ap (column c.args.dfa.now) next;
-      filled = filled_close c.args.dfa.now c.loop-count.count c.loop-count.blocks c.close.new.blocks c.set_bits.new.block
+      filled = filled_close c.args.dfa.now c.loop-count.count c.loop-count.blocks c.close.new.blocks
+          c.set_bits.new.block
           c.close.new.block.items
-          (filled_set c.args.dfa.now c.loop-count.count c.loop-count.blocks c.loop-count.block.items c.set_bits.new.block
+          (filled_set c.args.dfa.now c.loop-count.count c.loop-count.blocks c.loop-count.block.items
+              c.set_bits.new.block
           c.loop-count.invariant.filled
           (sets_same (c.loop-count.count % 64) (c.as_slice.ensures ∙ c.loop-count.invariant.column)
           c.as_mut_slice.ensures.value c.set_bits.ensures))
-          (subst (λ block. Closes c.loop-count.count c.loop-count.blocks c.close.new.blocks block c.close.new.block.items)
+          (subst (λ block. Closes c.loop-count.count c.loop-count.blocks c.close.new.blocks block
+              c.close.new.block.items)
           back c.in_ok-close.ensures);
     }
 

@@ -7,13 +7,15 @@ use Rattle.helix_words.proofs.fill.fill.Goals as goal
 
 pub loop-done-init : goal.loop-done-init
 loop-done-init g c = record {
-  begun = slot_none c.args.words.now.automaton c.args.state c.args.count c.args.out.now c.requires.state c.requires.rest;
+  begun = slot_none c.args.words.now.automaton c.args.state c.args.count c.args.out.now c.requires.state
+      c.requires.rest;
   moved = moved_none g.L.Ledger.IsNoted _ c.args.steps.now;
 }
 
 pub loop-done-preserved : goal.loop-done-preserved
 loop-done-preserved g c = record {
-  begun = subst (SlotBegun c.args.words.now.automaton c.args.state c.args.count _ c.first_step-step.result.to c.args.out.now)
+  begun = subst (SlotBegun c.args.words.now.automaton c.args.state c.args.count _ c.first_step-step.result.to
+      c.args.out.now)
       (sym c.push.ensures)
       (slot_more c.args.words.now.automaton c.args.state c.args.count c.args.out.now c.loop-done.done c.loop-done.state
       c.loop-done.out c.loop-done.invariant.begun c.first_step-step.result c.loop-done-test.true

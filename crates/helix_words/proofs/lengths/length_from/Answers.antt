@@ -9,7 +9,8 @@ returns-clause-some c =
     let are = subst (λ w. AreTables w c.words.inside.rows c.words.inside.table c.words.inside.lengths) c.words.view_is
     c.words.invariant in
     length_found c.args.words.now c.as_slice.result.now
-    (subst (AreLengths (IsLengthOf c.args.words.now)) (sym c.as_slice.ensures) are.are_lengths) are.short are.well_formed.some
+    (subst (AreLengths (IsLengthOf c.args.words.now)) (sym c.as_slice.ensures) are.are_lengths) are.short
+        are.well_formed.some
     c.args.from
     c.number_from.result c.number_from.ensures
 
@@ -18,6 +19,7 @@ returns-clause-none c =
     let are = subst (λ w. AreTables w c.words.inside.rows c.words.inside.table c.words.inside.lengths) c.words.view_is
     c.words.invariant in
     length_missing c.args.words.now c.as_slice.result.now
-    (subst (AreLengths (IsLengthOf c.args.words.now)) (sym c.as_slice.ensures) are.are_lengths) are.short are.well_formed.some
+    (subst (AreLengths (IsLengthOf c.args.words.now)) (sym c.as_slice.ensures) are.are_lengths) are.short
+        are.well_formed.some
     c.args.from
     c.number_from.result c.number_from.ensures

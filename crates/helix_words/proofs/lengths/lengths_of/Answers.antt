@@ -9,9 +9,11 @@ pub loop-count-preserved : goal.loop-count-preserved
 loop-count-preserved c =
     elim c.if-has_rest.branch [
       | then-has_rest+then-not-is_refused+in_ok-push w ↦
-          subst (AreLengthsBelow (IsAllowed c.args.table.now c.args.shortest c.args.longest c.args.refused.now) (c.loop-count.count + 1))
+          subst (AreLengthsBelow (IsAllowed c.args.table.now c.args.shortest c.args.longest c.args.refused.now)
+              (c.loop-count.count + 1))
           (sym (w.lengths-is ∙ w.in_ok-push.ensures.ok))
-          (lengths_push (IsAllowed c.args.table.now c.args.shortest c.args.longest c.args.refused.now) c.loop-count.count
+          (lengths_push (IsAllowed c.args.table.now c.args.shortest c.args.longest c.args.refused.now)
+              c.loop-count.count
           c.loop-count.lengths c.loop-count.invariant (record {
             not_short = c.loop-count.auto.count;
             not_long = omega (arith, c.loop-count-test.true);
@@ -19,9 +21,11 @@ loop-count-preserved c =
             has_rest = c.has_rest.ensures.0 w.if-has_rest.true;
           }))
       | else-has_rest w ↦
-          subst (AreLengthsBelow (IsAllowed c.args.table.now c.args.shortest c.args.longest c.args.refused.now) (c.loop-count.count + 1))
+          subst (AreLengthsBelow (IsAllowed c.args.table.now c.args.shortest c.args.longest c.args.refused.now)
+              (c.loop-count.count + 1))
           (sym w.lengths-is)
-          (lengths_skip (IsAllowed c.args.table.now c.args.shortest c.args.longest c.args.refused.now) c.loop-count.count
+          (lengths_skip (IsAllowed c.args.table.now c.args.shortest c.args.longest c.args.refused.now)
+              c.loop-count.count
           c.loop-count.lengths c.loop-count.invariant (λ allowed. elim w.else-has_rest.branch [
             | else-has_rest-via-then-has_rest+else-not-is_refused w' ↦
                 allowed.not_refused (w'.is_refused.ensures.0 w'.if-not-is_refused.false)
