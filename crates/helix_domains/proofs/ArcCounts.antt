@@ -32,8 +32,11 @@ most c = omega arith
 
 -- the code of an arc's character is between its ends
 between : (code : ℕ) (arc : Arc) → IsTrue (holds code arc) → (arc.first ≤ code) × (code ≤ arc.last)
-between code arc held = let parts = and_parts _ _ held in (leb-true arc.first code parts.0, leb-true code arc.last
-    parts.1)
+between code arc held = let parts = and_parts _ _ held in (
+  leb-true arc.first code parts.0,
+  leb-true code arc.last
+      parts.1,
+)
 
 few_from : (arcs : List Arc) (bound : ℕ) → AreInOrder arcs → All HasCharacter arcs
     → ((arc : Arc) (rest : List Arc) → arcs ≡ arc ∷ rest → bound ≤ arc.first)
@@ -50,7 +53,7 @@ few_from (arc ∷ next ∷ arcs) bound ordered used low =
     let held = between has.0 arc has.2 in
     let one : characters_below bound + 1 ≤ characters_below (arc.last + 1) =
     counts bound has.0 (arc.last + 1) has.1 (omega (arith, low arc (next ∷ arcs) refl, held.0))
-        (omega (arith, held.1)) in
+    (omega (arith, held.1)) in
     let rest : length (next ∷ arcs) + characters_below (arc.last + 1) ≤ characters =
     few_from (next ∷ arcs) (arc.last + 1) ordered.1 (All-tail HasCharacter arc (next ∷ arcs) used)
     (λ a r is. let same : next ≡ a = cc in omega (arith, ordered.0, ap (λ x. x.first) same)) in

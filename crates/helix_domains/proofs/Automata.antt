@@ -31,7 +31,7 @@ pub within_more : (alphabet : Alphabet) (state next : Bool) (first code : ℕ)
     → next ≡ (state && is_character_of alphabet first) → is_character_of alphabet code ≡ is_character_of alphabet first
     → (word : List ℕ)
     → ((next ≡ true) × All (IsCharacterOf alphabet) word)
-        ↔ ((state ≡ true) × All (IsCharacterOf alphabet) (code ∷ word))
+    ↔ ((state ≡ true) × All (IsCharacterOf alphabet) (code ∷ word))
 within_more alphabet state next first code is alike word = (
   (λ h. let parts = and_parts state (is_character_of alphabet first) (sym is ∙ h.0) in
       (parts.0, All-cons (IsCharacterOf alphabet) code word (alike ∙ parts.1) h.1)),
@@ -46,7 +46,7 @@ within_more alphabet state next first code is alike word = (
 pub signed_false : (sign : Bool) (dfa : Automaton) (result : Result Automaton Memory) → sign ≡ false
     → IfOk result (λ other. (word : List ℕ) → All IsCharacter word → Accepts other word ↔ (Accepts dfa word → ⊥))
     → IfOk result (λ other. (word : List ℕ) → All IsCharacter word → Accepts other word
-        ↔ Signed sign (Accepts dfa word))
+    ↔ Signed sign (Accepts dfa word))
 signed_false sign dfa (Err e) is exact = tt
 signed_false sign dfa (Ok other) is exact = λ word characters.
     subst (λ s. Accepts other word ↔ Signed s (Accepts dfa word)) (sym is) (exact word characters)
@@ -111,8 +111,10 @@ pub narrowed_start : (k : Kind) (atoms : List SignedAtom) (old new : List Automa
     → AllAccept new word ↔ (IsWordOfKind k word × All (λ signed. PassesWord signed word) (take 0 atoms))
 narrowed_start k atoms old new empty narrow word characters = (
   (λ all. (((narrow word characters).0 all).1, λ i d within. absurd (omega arith))),
-  (λ both. (narrow word characters).1 (subst (λ l. AllAccept l word) (sym empty) (λ i d within. absurd (omega arith)),
-      both.0)),
+  (λ both. (narrow word characters).1 (
+    subst (λ l. AllAccept l word) (sym empty) (λ i d within. absurd (omega arith)),
+    both.0,
+  )),
 )
 
 pub narrowed_more : (k : Kind) (atoms : List SignedAtom) (i : ℕ) (signed : SignedAtom) → i < length atoms
@@ -135,7 +137,7 @@ pub narrowed_all : (k : Kind) (atoms : List SignedAtom) (i : ℕ) (dfas : List A
     → AllAccept dfas word ↔ (IsWordOfKind k word × All (λ s. PassesWord s word) atoms)
 narrowed_all k atoms i dfas past so_far word characters =
     subst (λ all. AllAccept dfas word ↔ (IsWordOfKind k word × All (λ s. PassesWord s word) all))
-        (take_all i atoms past)
+    (take_all i atoms past)
     (so_far word characters)
 
 -- what an automaton of a test accepts, as an atom has it
@@ -153,7 +155,7 @@ pub equal_word : (sign : Bool) (operand : Cell) (slice : List Cell) (dfa : Autom
 equal_word sign operand slice dfa is exact word characters =
     let same = signed_same sign (Contains slice (cell.Text word)) (cell.Text word ≡ operand)
     (subst (λ s. Contains s (cell.Text word) ↔ (cell.Text word ≡ operand)) (sym is) (one_of operand (cell.Text word)))
-        in
+    in
     ((λ accepts. same.0 ((exact word characters).0 accepts)), (λ passes. (exact word characters).1 (same.1 passes)))
 
 pub set_word : (sign : Bool) (members slice : List Cell) (dfa : Automaton) → slice ≡ members
@@ -189,8 +191,10 @@ product_more dfas old left all next both is so_far product word characters =
     let push = all_push (λ d. Accepts d word) left next in
     let before = so_far word characters in
     let now = product word characters in (
-      (λ h. let parts = now.0 h.1 in before.0 (subst (λ l. AllAccept l word) (sym is) (push.1 (h.0, parts.1)),
-          parts.0)),
+      (λ h. let parts = now.0 h.1 in before.0 (
+        subst (λ l. AllAccept l word) (sym is) (push.1 (h.0, parts.1)),
+        parts.0,
+      )),
       (λ h. let parts = before.1 h in let apart = push.0 (subst (λ l. AllAccept l word) is parts.0) in
           (apart.0, now.1 (parts.1, apart.1))),
     )

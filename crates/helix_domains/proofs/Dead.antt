@@ -22,7 +22,7 @@ dead_more dfa state states arcs flag number within value shape at off so_far k b
     here reached =
         let same : state ≡ k = omega (arith, reached, below) in
         subst (λ j. All (λ arc. arc.to < length dfa.moves) (arcs_of dfa j) × (slice_get dfa.accepting j ≢ Some true))
-            same (
+        same (
           subst (All (λ arc. arc.to < length dfa.moves)) value shape.named,
           λ on. let both : Some flag ≡ Some true = sym at ∙ on in cc,
         )

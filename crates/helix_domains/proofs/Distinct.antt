@@ -79,14 +79,14 @@ module _ (cells all : List Cell) (i : ℕ) (cell : Cell) (within : i < length ce
           let there : get_or cells early.0 last ≡ last = sym (get_or-take i cells early.0 last before) ∙ early.2 in
           let here : get_or cells i last ≡ cell = get_or_default cells i last cell within ∙ sym is in
           let far = sorted_far (λ x y. is_lt (cell_cmp x y)) (ranks_by cell_cmp_total (λ x. x)) cells sorted early.0 i
-              last
+          last
           (omega (arith, before)) within in
           let not_before : is_lt (cell_cmp cell last) ≡ false =
           subst (λ x. is_lt (cell_cmp x last) ≡ false) here
           (subst (λ x. is_lt (cell_cmp (get_or cells i last) x) ≡ false) there far) in
           subst (Contains all) (one_cell last cell not_before
           (λ less. not_above (λ d _. subst (λ x. CellLess x cell) (get_or_default all (length all - 1) cell d at)
-              less)))
+          less)))
           listed
 
 pub same_all : (cells all : List Cell) (i : ℕ) → length cells ≤ i → HaveSameCells (take i cells) all

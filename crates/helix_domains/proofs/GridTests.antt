@@ -116,7 +116,7 @@ pub equal_passes : (line : Line) (signed : SignedAtom) (operand : Cell) (slice :
     (result : Result GridTest Memory)
     → signed.atom.test ≡ test.EqualTo operand → slice ≡ operand ∷ []
     → IfOk result (λ t. (units : ℤ) → Passes (ladder_on line) t units
-        ↔ Signed signed.sign (Contains slice (cell_on line units)))
+    ↔ Signed signed.sign (Contains slice (cell_on line units)))
     → IfOk result (λ t. (units : ℤ) → Passes (ladder_on line) t units ↔ PassesAtom signed (cell_on line units))
 equal_passes line signed operand slice (Err e) is one exact = tt
 equal_passes line signed operand slice (Ok t) is one exact = λ units.
@@ -129,7 +129,7 @@ equal_passes line signed operand slice (Ok t) is one exact = λ units.
 pub set_passes : (line : Line) (signed : SignedAtom) (members slice : List Cell) (result : Result GridTest Memory)
     → signed.atom.test ≡ test.InSet members → slice ≡ members
     → IfOk result (λ t. (units : ℤ) → Passes (ladder_on line) t units
-        ↔ Signed signed.sign (Contains slice (cell_on line units)))
+    ↔ Signed signed.sign (Contains slice (cell_on line units)))
     → IfOk result (λ t. (units : ℤ) → Passes (ladder_on line) t units ↔ PassesAtom signed (cell_on line units))
 set_passes line signed members slice (Err e) is same exact = tt
 set_passes line signed members slice (Ok t) is same exact = λ units.

@@ -124,4 +124,4 @@ pub lengths_all : (atoms : List SignedAtom) (i : ℕ) (lengths : Lengths) → le
     → IsLengthOf lengths n ↔ ((n ≤ 1000) × All (λ s. PassesLength s n) atoms)
 lengths_all atoms i lengths past so_far n =
     subst (λ all. IsLengthOf lengths n ↔ ((n ≤ 1000) × All (λ s. PassesLength s n) all)) (take_all i atoms past)
-        (so_far n)
+    (so_far n)

@@ -27,7 +27,7 @@ members_of : (on : Line) (k : Kind) (level grid_level : ℕ) (atoms : List Signe
 members_of on k level grid_level atoms tests slice grid_tests same levels are exact v =
     subst (λ l. IsAllowed k atoms v ↔ IsOnLine on (IsMember (ladder_on on) l grid_tests) v) (sym levels)
     (subst (λ all. IsAllowed k atoms v ↔ IsOnLine on (IsMember (ladder_on on) level all) v) (sym (are ∙ same))
-        (exact v))
+    (exact v))
 
 pub numbers_exact : (k : Kind) (level : ℕ) (atoms : List SignedAtom) (tests slice : List GridTest)
     (grid : Tested Decades)

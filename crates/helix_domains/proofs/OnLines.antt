@@ -112,7 +112,7 @@ pub after_admits_none : (line : Line) (bound : CellRef) → IsMarkBound (class_o
     → ((units : ℤ) → cell_of bound ≢ cell_on line units) → AreNotAdmitted line (After bound)
 after_admits_none line bound fits off units small admitted =
     not_above_null line units (subst (λ c. CellLess c (cell_on line units)) (null_only line (cell_of bound) fits off)
-        admitted)
+    admitted)
 
 pub after_last_admits_none : (line : Line) (bound : CellRef) (u : ℤ) → cell_of bound ≡ cell_on line u
     → ((units : ℤ) → IsDecimal units → ¬ (u <ℤ units)) → AreNotAdmitted line (After bound)

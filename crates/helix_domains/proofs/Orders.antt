@@ -69,7 +69,7 @@ module _ (cells : List Cell) (ascending : AreAscending cells) where
       by (inr not) =
           let same : j ≡ i = omega (arith, before, not) in
           subst (λ k. is_lt (cell_cmp (get_or cells j d) (get_or cells k d)) ≡ false) same
-              (not_itself (get_or cells j d))
+          (not_itself (get_or cells j d))
 
   -- the cells from an admitted one on are admitted, and those up to one that isn't aren't
   pub all_from : (mark : Mark) (i : ℕ) (e : Cell) → i < length cells → IsAdmitted mark (get_or cells i e)

@@ -91,7 +91,7 @@ ready_more atoms all i signed more within is one so_far = record {
         subst (λ s. IsReadyFor s (get_or (all ++ more ∷ []) k e))
         (get_or-take i atoms k d early ∙ sym (get_or-take (i + 1) atoms k d below))
         (subst (IsReadyFor (get_or (take i atoms) k d))
-            (sym (get_or_append_left all (more ∷ []) e k (omega (arith, early, long))))
+        (sym (get_or_append_left all (more ∷ []) e k (omega (arith, early, long))))
         (so_far.each k d e (omega (arith, early, so_far.as_many, long))))
     by k d e below (inr last) =
         let same : i ≡ k = omega (arith, below, last) in
@@ -111,7 +111,7 @@ pub ready_at : (atoms : List SignedAtom) (all : List Ready) (i : ℕ) (signed : 
     → i < length atoms → signed ≡ get_or atoms i signed → one ≡ get_or all i one → IsReadyFor signed one
 ready_at atoms all i signed one are within is at =
     subst (λ s. IsReadyFor s one) (sym is) (subst (IsReadyFor (get_or atoms i signed)) (sym at)
-        (are.each i signed one within))
+    (are.each i signed one within))
 
 pub chosen_at : (atoms : List SignedAtom) (chosen : Option ℕ) (v : Cell) (i : ℕ) (signed : SignedAtom)
     → PassesChosen atoms chosen v → chosen ≡ Some i → i < length atoms → signed ≡ get_or atoms i signed

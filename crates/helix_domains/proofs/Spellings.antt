@@ -46,9 +46,11 @@ pub rest_joined : (c : Cell) (place code : ℕ) (rest : List ℕ) → code_in c 
     → HasRest c place (code ∷ rest)
 rest_joined (cell.Text codes) place code rest at has =
     let within : place < length codes = slice_get_within codes place code at in
-    let first : get_or codes place 0 ≡ code = get_or_from_slice_get codes place code 0 at in
-    (omega arith, drop_more codes place 0 within ∙ (ap (λ c. c ∷ drop (place + 1) codes) first
-        ∙ ap (λ r. code ∷ r) has.1))
+    let first : get_or codes place 0 ≡ code = get_or_from_slice_get codes place code 0 at in (
+      omega arith,
+      drop_more codes place 0 within ∙ (ap (λ c. c ∷ drop (place + 1) codes) first
+          ∙ ap (λ r. code ∷ r) has.1),
+    )
 rest_joined cell.Null place code rest at has = absurd has
 rest_joined (cell.Bool truth) place code rest at has = absurd has
 rest_joined (cell.Number units) place code rest at has = absurd has
@@ -178,7 +180,7 @@ pub spelled_ok : (cells : List Cell) (numbers : List ℕ) (result : Result Autom
     → ((number : ℕ) → number < length cells → Contains numbers number)
     → IfOk result (λ dfa. (word : List ℕ) → All IsCharacter word → Accepts dfa word ↔ SpellsNone cells 0 numbers word)
     → IfOk result (λ dfa. (word : List ℕ) → All IsCharacter word → Accepts dfa word
-        ↔ (¬ Contains cells (cell.Text word)))
+    ↔ (¬ Contains cells (cell.Text word)))
 spelled_ok cells numbers (Err e) all exact = tt
 spelled_ok cells numbers (Ok dfa) all exact = λ word characters.
     let law = spelled cells numbers all word in

@@ -53,7 +53,7 @@ no_level c level is levels = subst (λ d. IsLevel d level) is levels
 
 text_joined : (k : Kind) → class_of_kind k ≡ strings → (sign : Bool) (t : Test) → IsTestOfValue t → IsTestFor k t
     → (word : List ℕ) → IsLengthFor sign t (length word) → IsWordFor sign t word
-        → Signed sign (Holds t (cell.Text word))
+    → Signed sign (Holds t (cell.Text word))
 text_joined k class sign (test.IsNull wanted) of_value fits word long is = absurd of_value
 text_joined k class sign (test.EqualTo operand) of_value fits word long is = is
 text_joined k class sign (test.InSet members) of_value fits word long is = is
@@ -133,10 +133,10 @@ module _ (k : Kind) (class : class_of_kind k ≡ strings) (atoms : List SignedAt
           characters = within.1;
           accepted = subst (λ a. Accepts a word) (sym automaton) ((product word within.1).1
               ((patterns word within.1).1 (
-            within.2,
-            λ i d inside. (text_parts (get_or atoms i d).sign (get_or atoms i d).atom.test word
-                (allowed.passes i d inside)).1,
-          )));
+                within.2,
+                λ i d inside. (text_parts (get_or atoms i d).sign (get_or atoms i d).atom.test word
+                    (allowed.passes i d inside)).1,
+              )));
           not_short = omega (arith, shortest, long.not_short);
           not_long = omega (arith, longest, long.not_long);
           not_refused = λ has. long.not_refused (subst (λ all. Contains all (length word)) refused has);
@@ -180,12 +180,12 @@ pub no_values : (k : Kind) → class_of_kind k ≡ strings → (atoms : List Sig
     → (none : List Cell) → lengths.end ≤ lengths.shortest → none ≡ [] → AreValuesOf k atoms (Listed none)
 no_values k class atoms fit lengths of_length none past is = subst (λ l. AreValuesOf k atoms (Listed l)) (sym is)
     (record {
-  in_form = ((λ i j d less within. absurd (omega (arith, within))), (λ i d within. absurd (omega (arith, within))));
-  exact = λ v. (
-    (λ allowed. absurd (none_allowed k class atoms fit lengths of_length past v allowed)),
-    (λ has. absurd (omega (arith, has.1))),
-  );
-})
+      in_form = ((λ i j d less within. absurd (omega (arith, within))), (λ i d within. absurd (omega (arith, within))));
+      exact = λ v. (
+        (λ allowed. absurd (none_allowed k class atoms fit lengths of_length past v allowed)),
+        (λ has. absurd (omega (arith, has.1))),
+      );
+    })
 
 -- the values that are words
 pub text_values : (k : Kind) (class : class_of_kind k ≡ strings) (atoms : List SignedAtom) → All (IsAtomFor k) atoms

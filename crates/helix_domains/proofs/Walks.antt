@@ -31,7 +31,7 @@ module _ {X : Type 0} where
   contains_more xs i x v within is =
       subst (λ t. Contains (take (i + 1) xs) v ↔ (Contains (take i xs) v ⊎ (t ≡ v))) (sym is)
       (subst (λ first. Contains first v ↔ (Contains (take i xs) v ⊎ (get_or xs i x ≡ v)))
-          (sym (take_more xs i x within)) (
+      (sym (take_more xs i x within)) (
         Contains-push_cases (take i xs) (get_or xs i x) v,
         λ either. ⊎_elim (λ old. Contains-append_left (take i xs) (get_or xs i x ∷ []) v old)
             (λ new. subst (Contains (take i xs ++ get_or xs i x ∷ [])) new (Contains-push (take i xs) (get_or xs i x)))

@@ -48,7 +48,7 @@ pub value_keys : (members : List Member) (key : List ℕ) (w : Json) → HasNoRe
 value_keys members key w keys is =
     let found : Leads key members w = leads key members w is in
     let has : HasNoRepeatedKey found.member.value = all_at (λ n. HasNoRepeatedKey n.value) members found.index
-        found.member
+    found.member
     ((keys_of_members members).0 keys).1 found.at in
     subst HasNoRepeatedKey found.value_is has
 

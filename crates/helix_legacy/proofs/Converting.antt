@@ -71,7 +71,7 @@ pub object_converts : (v : Json) (members slice : List Member) (r : Result Json 
     → IfOk r (λ today. today ≡ constraint_today v)
 object_converts v members slice r is slice_is = if_ok r _ _
     (λ today slice_today. slice_today ∙ (ap (λ l. constraint_today (view.Object l)) slice_is
-        ∙ ap constraint_today (sym is)))
+    ∙ ap constraint_today (sym is)))
 
 pub list_converts : (v : Json) (items slice : List Json) (r : Result Json Memory) → v ≡ view.List items
     → slice ≡ items → IfOk r (λ today. today ≡ view.List (map constraint_today slice))

@@ -95,8 +95,11 @@ pub none_at_first : {A : Type 0} (Q : A → Type 0) (xs : List A) → NoneBefore
 none_at_first Q xs k below x is q = absurd (omega arith)
 
 below_next : (k i : ℕ) (T : Type 0) → k < i + 1 → (k < i → T) → (k ≡ i → T) → T
-below_next k i T below earlier here = elim (cases_lt k i) [ inl less ↦ earlier less | inr not_less ↦ here
-    (omega arith) ]
+below_next k i T below earlier here = elim (cases_lt k i) [
+  | inl less ↦ earlier less
+  | inr not_less ↦ here
+      (omega arith)
+]
 
 -- and neither is the next one
 pub none_more : {A : Type 0} (Q : A → Type 0) (xs : List A) (i : ℕ) (y : A) → i < length xs → y ≡ get_or xs i y

@@ -139,7 +139,7 @@ module _ (P : Json → List Step → Type 0) (items : List Json) where
                   | inr not_after ↦
                       let same : index ≡ i = omega arith in
                       let here : slice_get items i ≡ Some there.0 = subst (λ k. slice_get items k
-                          ≡ Some there.0) same found in
+                      ≡ Some there.0) same found in
                       let equal : there.0 ≡ item = let both : Some there.0 ≡ Some item = sym here ∙ at in cc in
                       inl (ap step.Item same, subst (λ w. P w rest) equal there.2)
                 ]

@@ -70,7 +70,7 @@ module _ (members : List Member) where
       something place new some new_is keys =
           let Q : Option (List Step) → Type 0 = λ o. Finds w (BreaksTests many w) o in
           let R : List Step → Type 0 = λ p. IsFirstPlace (view.Object members) (InConstraints (view.Object members)) p
-              in
+          in
           subst R (sym new_is) (first_in_member (view.Object members) w (codes "constraints") (BreaksTests many) (its
-              ∙ is)
+          ∙ is)
           place (subst Q some (says (value_keys members (codes "constraints") w keys is))))

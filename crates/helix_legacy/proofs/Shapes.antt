@@ -38,7 +38,7 @@ pub items_say : (v : Json) (items : List Json) (r : Result (Option (List Step)) 
 items_say v items r is says =
     let Q : Json → Type 0 = λ w. IfOk r (Says BreaksForm w) in
     subst Q (sym is) (if_ok r _ _ (λ found finds keys. finds_same (view.List items)
-        (InItem BreaksRuleForm (view.List items))
+    (InItem BreaksRuleForm (view.List items))
     (BreaksForm (view.List items)) found (in_list items) (finds keys)) says)
 
 pub object_says : (v : Json) (members : List Member) (r : Result (Option (List Step)) Memory) → v ≡ view.Object members
@@ -66,13 +66,17 @@ module _ (members : List Member) where
     list_fault some is (step.Item index ∷ place) (inr deep) = absurd deep
     list_fault None is (step.Member key ∷ place) (inr deep) =
         absurd (let Q : Option Json → Type 0 = λ o. IsSomeAnd o (λ w. Here (λ v. is_list v ≡ false) w place) in subst
-            Q is deep.1)
+        Q is deep.1)
     list_fault (Some w) is (step.Member key ∷ place) (inr deep) =
         let fault : (place ≡ []) × (is_list w ≡ false) =
         some_and (value_of (codes "constraints") (members_of (view.Object members)))
-        (λ v. Here (λ u. is_list u ≡ false) v place) w is deep.1 in
-        (w, refl, fault.1, ap (λ k. step.Member k ∷ place) deep.0 ∙ ap (λ p. step.Member (codes "constraints") ∷ p)
-            fault.0)
+        (λ v. Here (λ u. is_list u ≡ false) v place) w is deep.1 in (
+          w,
+          refl,
+          fault.1,
+          ap (λ k. step.Member k ∷ place) deep.0 ∙ ap (λ p. step.Member (codes "constraints") ∷ p)
+              fault.0,
+        )
 
     value_is : value_of (codes "constraints") (members_of (view.Object members))
         ≡ value_of (codes "constraints") members

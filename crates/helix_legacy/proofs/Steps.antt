@@ -14,13 +14,13 @@ outer_at steps k default within =
     ∙ (ap (flat_map step_text) (reverse-append (get_or steps k default ∷ []) (drop (suc k) steps))
     ∙ (flat_map-append step_text (reverse (drop (suc k) steps)) (get_or steps k default ∷ [])
     ∙ ap (λ l. flat_map step_text (reverse (drop (suc k) steps)) ++ l)
-        (append-nil (step_text (get_or steps k default)))))
+    (append-nil (step_text (get_or steps k default)))))
 
 -- one step more
 pub outer_step : (steps : List Step) (i : ℕ) (default : Step) → i < length steps
     → flat_map step_text (reverse (drop (length steps - (i + 1)) steps))
     ≡ flat_map step_text (reverse (drop (length steps - i) steps)) ++ step_text
-        (get_or steps (length steps - 1 - i) default)
+    (get_or steps (length steps - 1 - i) default)
 outer_step steps i default within =
     let k : ℕ = length steps - 1 - i in
     let here : length steps - (i + 1) ≡ length steps - 1 - i = omega arith in
@@ -28,4 +28,4 @@ outer_step steps i default within =
     ap (λ n. flat_map step_text (reverse (drop n steps))) here
     ∙ (outer_at steps (length steps - 1 - i) default (omega arith)
     ∙ ap (λ n. flat_map step_text (reverse (drop n steps)) ++ step_text (get_or steps (length steps - 1 - i) default))
-        (sym next))
+    (sym next))

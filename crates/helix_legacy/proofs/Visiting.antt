@@ -31,7 +31,7 @@ tests_in_parts role next v sound parts (step ∷ place) = (
   (λ h. inr (and_some (role_of_parts role v) (λ r. IsSomeAnd (part v step) (λ w. BreaksTests r w place)) next parts h)),
   (λ h. ⊎_elim (λ fault. absurd (cc))
       (λ deep. some_and (role_of_parts role v) (λ r. IsSomeAnd (part v step) (λ w. BreaksTests r w place)) next parts
-          deep) h),
+      deep) h),
 )
 
 none_and : {A : Type 0} (o : Option A) (P : A → Type 0) → o ≡ None → ¬ (IsSomeAnd o P)
@@ -44,7 +44,7 @@ tests_own role v parts [] = ((λ h. h), (λ h. h))
 tests_own role v parts (step ∷ place) = (
   (λ h. ⊎_elim (λ fault. fault)
       (λ deep. absurd (none_and (role_of_parts role v) (λ r. IsSomeAnd (part v step) (λ w. BreaksTests r w place))
-          parts deep)) h),
+      parts deep)) h),
   (λ h. inl h),
 )
 
@@ -75,7 +75,7 @@ pub operands_finds : (members : List Member) (found : Option (List Step)) → fo
 operands_finds members found is = finds_same (view.Object members) (InPart (BreaksTests one) (view.Object members))
     (BreaksTests one (view.Object members)) found
     (tests_in_parts one one (view.Object members) (fault_is members form.Operands is)
-        (role_is members form.Operands is))
+    (role_is members form.Operands is))
 
 pub branches_finds : (members : List Member) (found : Option (List Step)) → form_of members ≡ form.Branches
     → Finds (view.Object members) (InPart (BreaksTests many) (view.Object members)) found
@@ -83,7 +83,7 @@ pub branches_finds : (members : List Member) (found : Option (List Step)) → fo
 branches_finds members found is = finds_same (view.Object members) (InPart (BreaksTests many) (view.Object members))
     (BreaksTests one (view.Object members)) found
     (tests_in_parts one many (view.Object members) (fault_is members form.Branches is)
-        (role_is members form.Branches is))
+    (role_is members form.Branches is))
 
 nothing_own : (role : Role) (v : Json) → role_of_parts role v ≡ None → own_fault role v ≡ None
     → Finds v (BreaksTests role v) None
@@ -122,7 +122,7 @@ list_finds items found in_items = finds_same (view.List items) (InPart (BreaksTe
     (BreaksTests many (view.List items)) found
     (tests_in_parts many one (view.List items) refl refl)
     (finds_same (view.List items) (InItem (BreaksTests one) (view.List items)) (InPart (BreaksTests one)
-        (view.List items))
+    (view.List items))
     found (items_same items) in_items)
 
 -- the same of the answers of calls

@@ -181,11 +181,15 @@ module _ (nullable : List Bool) (row : List Cell) (fits : Fits nullable row) whe
       (literal_true row (Null relation.right)) (literal_true row (Joined relation sign false))
       (literal_true row (Joined relation sign true)) (path_true row literals) fact
       (true_is _ (dec_literal (Null relation.left) row)) (false_is _ (dec_literal (NotNull relation.left) row))
-      (true_is _ (dec_literal (Null relation.right) row))
-      (decided-true (dec_literal (Joined relation sign false) row), true-decided
-          (dec_literal (Joined relation sign false) row))
-      (decided-true (dec_literal (Joined relation sign true) row), true-decided
-          (dec_literal (Joined relation sign true) row)))
+      (true_is _ (dec_literal (Null relation.right) row)) (
+        decided-true (dec_literal (Joined relation sign false) row),
+        true-decided
+            (dec_literal (Joined relation sign false) row),
+      ) (
+        decided-true (dec_literal (Joined relation sign true) row),
+        true-decided
+            (dec_literal (Joined relation sign true) row),
+      ))
     where
       not_left : List Literal → Found
       not_left = λ more. with_literal nullable (NotNull relation.left) more rest

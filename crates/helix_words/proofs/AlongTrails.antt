@@ -48,8 +48,12 @@ module _ (automaton : Automaton) where
     pub along_take : (count : ℕ) → count ≤ length word → AreAlong automaton (take count word) (take (count + 1) states)
     along_take count low = record {
       start = get_or-take (count + 1) states 0 0 (omega arith) ∙ along.start;
-      as_many = omega (arith, length-take-le count word low, length-take-le (count + 1) states
-          (omega (arith, along.as_many, low)));
+      as_many = omega (
+        arith,
+        length-take-le count word low,
+        length-take-le (count + 1) states
+            (omega (arith, along.as_many, low)),
+      );
       each = λ place less.
           let here : place < count = omega (arith, less, length-take-le count word low) in
           rw (
@@ -67,10 +71,10 @@ module _ (automaton : Automaton) where
         let more : suc count ≡ count + 1 = omega arith in
         subst (λ n. LeadsAlong automaton 0 (take n word) (slice_index states n)) (sym more)
         (subst (λ l. LeadsAlong automaton 0 l (slice_index states (count + 1)))
-            (sym (take_more word count 0 (omega (arith, low))))
+        (sym (take_more word count 0 (omega (arith, low))))
         (along_more automaton (take count word) (slice_index word count) 0 (slice_index states count)
         (slice_index states (count + 1)) (along_path count (omega (arith, low)))
-            (along.each count (omega (arith, low)))))
+        (along.each count (omega (arith, low)))))
 
     pub along_within : IsWellFormed automaton → (count : ℕ) → count ≤ length word
         → slice_index states count < length automaton.moves
@@ -79,7 +83,7 @@ module _ (automaton : Automaton) where
         let more : suc count ≡ count + 1 = omega arith in
         subst (λ n. slice_index states n < length automaton.moves) (sym more)
         (target_within automaton form (slice_index states count) (slice_index word count)
-            (slice_index states (count + 1))
+        (slice_index states (count + 1))
         (along_within form count (omega (arith, low))) (along.each count (omega (arith, low))))
 
 -- a trail in which a rest is begun

@@ -14,7 +14,7 @@ leads_at [] code k d order used within e = absurd (omega (arith, within))
 leads_at (arc ∷ arcs) code zero d order used within e = target_here code arc arcs e
 leads_at (arc ∷ arcs) code (suc k) d order used within e =
     let above : arc.last < (get_or arcs k d).first = begins_above (arc ∷ arcs) 0 (suc k) d order used
-        (omega arith) within in
+    (omega arith) within in
     let low = (held code (get_or arcs k d) e).0 in
     target_on code arc arcs (not_above code arc (omega (arith, above, low)))
     ∙ leads_at arcs code k d (order_tail arc arcs order) (All-tail HasCharacter arc arcs used) (omega arith) e

@@ -37,7 +37,7 @@ module _ (automaton : Automaton) (form : IsWellFormed automaton) where
   -- an arc to a state with a rest is the beginning of a longer rest
   longer : (count state : ℕ) → state < length automaton.moves
       → ((other : ℕ) → other < length automaton.moves → HasFlag (column automaton count) other
-          ↔ HasRest automaton other count)
+      ↔ HasRest automaton other count)
       → HasFlag (column automaton (suc count)) state ↔ HasRest automaton state (suc count)
   longer count state within so_far = (to, from)
     where

@@ -89,7 +89,7 @@ module _ (automaton : Automaton) where
             let same : bit_of (blocks ++ new ∷ []) state count ≡ bit_of (blocks ++ old ∷ []) state count =
             earlier_bits blocks new state count here ∙ sym (earlier_bits blocks old state count here) in
             subst (λ b. (b ≡ 1) ↔ HasFlag (column automaton count) state) (sym same)
-                (filled.bits state count within before))
+            (filled.bits state count within before))
         | inr last ↦
             (let here : length blocks ≡ count / 64 = omega (arith, filled.many, last, before) in
             let other : count % 64 ≢ bound % 64 = λ same. omega (arith, same, last, before) in
@@ -97,13 +97,13 @@ module _ (automaton : Automaton) where
             last_bits blocks new state count here ∙ bit_kept state (count % 64) within other
             ∙ sym (last_bits blocks old state count here) in
             subst (λ b. (b ≡ 1) ↔ HasFlag (column automaton count) state) (sym same)
-                (filled.bits state count within before))
+            (filled.bits state count within before))
       ]
       | inr at ↦
           (let is : count ≡ bound = omega (arith, at, less) in
           subst (λ n. (bit_of (blocks ++ new ∷ []) state n ≡ 1) ↔ HasFlag (column automaton n) state) (sym is)
           (subst (λ b. (b ≡ 1) ↔ HasFlag (column automaton bound) state)
-              (sym (last_bits blocks new state bound filled.many))
+          (sym (last_bits blocks new state bound filled.many))
           (bit_set state within)))
     ]
 
@@ -125,8 +125,11 @@ module _ (automaton : Automaton) where
       → Closes bound old_blocks new_blocks old new
       → AreFilled automaton (bound + 1) (bound + 1) ((bound + 1) % 64) new_blocks new
   filled_close bound old_blocks new_blocks old new filled closes =
-      elim (cases_lt (bound % 64) 63) [ inl short ↦ open_yet (omega (arith, short)) | inr end ↦ full
-          (omega (arith, end)) ]
+      elim (cases_lt (bound % 64) 63) [
+        | inl short ↦ open_yet (omega (arith, short))
+        | inr end ↦ full
+            (omega (arith, end))
+      ]
     where
       Next : List (List ℕ) → List ℕ → Type 0
       Next blocks block = AreFilled automaton (bound + 1) (bound + 1) ((bound + 1) % 64) blocks block
@@ -155,7 +158,7 @@ module _ (automaton : Automaton) where
                 omega (arith, length_push old_blocks old, filled.many, end, less) in
                 subst (λ b. (b ≡ 1) ↔ HasFlag (column automaton count) state)
                 (sym (earlier_bits (old_blocks ++ old ∷ []) new state count here))
-                    (filled.bits state count within less);
+                (filled.bits state count within less);
             clear = λ state place within from. clear_bits new state place goes.1 (omega (arith, long, within));
           })
 
@@ -175,7 +178,7 @@ module _ (automaton : Automaton) where
       by state count within few (inl above) =
           let least : min count stable ≡ stable = omega (arith, above) in
           let bit = subst (λ n. (bit_of (blocks ++ block ∷ []) state n ≡ 1) ↔ HasFlag (column automaton n) state)
-              (sym least)
+          (sym least)
           (filled.bits state stable within (omega arith)) in
           let flags = ap (λ c. get_or c state false) (ap (column automaton) least ∙ sym (alike count above few)) in
           let rests = column_rests automaton form count state within in (
@@ -185,7 +188,7 @@ module _ (automaton : Automaton) where
       by state count within few (inr low) =
           let least : min count stable ≡ count = omega (arith, low) in
           let bit = subst (λ n. (bit_of (blocks ++ block ∷ []) state n ≡ 1) ↔ HasFlag (column automaton n) state)
-              (sym least)
+          (sym least)
           (filled.bits state count within (omega (arith, low))) in
           let flags = ap (λ n. get_or (column automaton n) state false) least in
           let rests = column_rests automaton form count state within in (

@@ -93,8 +93,12 @@ room_left (cell.Moment at) so_far count room less = room
 module _ (automaton : Automaton) (start count : ℕ) (old : Cell) where
   pub slot_none : start < length automaton.moves → HasRest automaton start count
       → SlotBegun automaton start count 0 start old old
-  slot_none within rest = record { so_far = []; is = with_nil old; begun = begun_none automaton start count within
-      rest }
+  slot_none within rest = record {
+    so_far = [];
+    is = with_nil old;
+    begun = begun_none automaton start count within
+        rest;
+  }
 
   module _ (done state : ℕ) (new : Cell) (begun : SlotBegun automaton start count done state old new) where
     pub slot_room : HasRoomForMore count old → done < count → HasRoom new

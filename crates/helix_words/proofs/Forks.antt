@@ -82,16 +82,16 @@ module _ (words : WordSet) (state code rest : ℕ) (short : rest < words.longest
       within = tt;
       stuck = λ to goes.
           let first = first_holds to goes d in dead (subst (λ s. HasRest words.automaton s rest)
-              (sym first.2) goes.has_rest);
+          (sym first.2) goes.has_rest);
       above = steps state (arcs_after words.automaton state (code + 1) rest arcs above
           (arc_dead words.automaton (code + 1) rest arcs 0 d within (arcs_begun words.automaton (code + 1) rest arcs)
-              dead
+          dead
           state above));
     }
 
     module _ (has : HasRest words.automaton (get_or arcs 0 d).to rest) (along : Option ℕ)
         (some : IfSome along (λ to. (to ≡ (get_or arcs 0 d).to) × IsCharacter code × (holds code (get_or arcs 0 d)
-            ≡ true)))
+        ≡ true)))
         (none : IfNone along (IsCharacter code → ¬ (holds code (get_or arcs 0 d) ≡ true))) where
       forked : (step : Option Step) → IsStepFrom words.automaton state (code + 1) rest step
           → IsFork words.automaton state code rest (record { along = along; above = step })
@@ -99,7 +99,7 @@ module _ (words : WordSet) (state code rest : ℕ) (short : rest < words.longest
         where
           by : (along : Option ℕ)
               → IfSome along (λ to. (to ≡ (get_or arcs 0 d).to) × IsCharacter code × (holds code (get_or arcs 0 d)
-                  ≡ true))
+              ≡ true))
               → IfNone along (IsCharacter code → ¬ (holds code (get_or arcs 0 d) ≡ true))
               → IsFork words.automaton state code rest (record { along = along; above = step })
           by None some none = record {
@@ -136,7 +136,7 @@ module _ (words : WordSet) (state code rest : ℕ) (short : rest < words.longest
       fork_later empty step steps = forked step (steps state
           (arcs_after words.automaton state (code + 1) rest arcs above
           (arc_empty words.automaton (code + 1) rest arcs 0 d within (arcs_begun words.automaton (code + 1) rest arcs)
-              empty
+          empty
           state above)))
 
     -- the first arc holds the next code too
@@ -169,7 +169,7 @@ module _ (automaton : Automaton) (state code rest : ℕ) (fork : Fork) (is : IsF
       → LeadsToRest automaton state rest (record { character = code; to = next })
   fork_along next some =
       subst (λ along. IfSome along (λ to. LeadsToRest automaton state rest (record { character = code; to = to })))
-          some is.along
+      some is.along
 
   pub fork_within : (next : ℕ) → fork.along ≡ Some next → next < length automaton.moves
   fork_within next some = subst (λ along. IfSome along (λ to. to < length automaton.moves)) some is.within

@@ -30,7 +30,7 @@ module _ (automaton : Automaton) (word states : List ℕ) (along : AreAlong auto
     there step steps =
         let left : back ≡ length word - (count - back - 1) - 1 = omega (arith, whole, less) in
         subst (λ n. IsStepFrom automaton (slice_index states (count - back - 1))
-            (get_or word (count - back - 1) 0 + 1) n step) left
+        (get_or word (count - back - 1) 0 + 1) n step) left
         (subst (λ c. IsStepFrom automaton (slice_index states (count - back - 1)) (c + 1) back step) is_code
         (subst (λ s. IsStepFrom automaton s (code + 1) back step) is_state steps))
 
@@ -40,15 +40,15 @@ module _ (automaton : Automaton) (word states : List ℕ) (along : AreAlong auto
         let next : count - back - 1 ≡ count - (back + 1) = omega arith in
         subst (AreApart automaton word) next
         (apart_more automaton word (count - back - 1) (slice_index states (count - back - 1))
-            (omega (arith, whole, less))
+        (omega (arith, whole, less))
         (along_path automaton word states along (count - back - 1) (omega (arith, whole))) apart_next
-            (there None steps))
+        (there None steps))
 
     -- a step at the place
     pub back_step : All IsCharacter word → (step : Step) → IsStepFrom automaton state (code + 1) back (Some step)
         → IsBranchOf automaton word (Some (record { place = count - back - 1; step = step }))
     back_step characters step steps =
         apart_step automaton word (count - back - 1) (slice_index states (count - back - 1))
-            (omega (arith, whole, less))
+        (omega (arith, whole, less))
         (along_path automaton word states along (count - back - 1) (omega (arith, whole))) apart_next characters step
         (there (Some step) steps)

@@ -103,8 +103,12 @@ module _ (xs : List ℕ) (ascending : IsStrictlyIncreasing xs) where
       → ((k : ℕ) → i ≤ k → k < length xs → from < get_or xs k 0) → IsLeastOf xs from (slice_get xs i)
   least_inserted from i before after = elim (cases_lt i (length xs)) [
     | inl within ↦ subst (IsLeastOf xs from) (sym (slice_get-get_or xs i 0 within)) (record {
-      some = (Contains-get_or xs i 0 within, (let above = after i (omega arith) within in omega (arith, above)), least
-          within);
+      some = (
+        Contains-get_or xs i 0 within,
+        (let above = after i (omega arith) within in omega (arith, above)),
+        least
+            within,
+      );
       none = tt;
     })
     | inr past ↦ subst (IsLeastOf xs from) (sym (slice_get_past xs i past)) (record { some = tt; none = none past })
@@ -133,7 +137,7 @@ module _ (xs : List ℕ) (ascending : IsStrictlyIncreasing xs) where
   last_greatest other has last is =
       let within : length xs - 1 < length xs = omega (arith, has.1) in
       let same : Some (get_or xs (length xs - 1) 0) ≡ Some last = sym (slice_get-get_or xs (length xs - 1) 0 within)
-          ∙ is in
+      ∙ is in
       let at : get_or xs (length xs - 1) 0 ≡ last = cc in
       let rise = rising has.0 (length xs - 1) (omega (arith, has.1)) within in
       omega (arith, rise, at, get_or_default xs has.0 0 other has.1, has.2)

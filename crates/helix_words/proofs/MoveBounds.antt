@@ -12,7 +12,7 @@ module _ {L : Type 0} (IsNoted : L → Step → L → Type 0) where
       → MovedAtMost IsNoted most middle new → MovedAtMost IsNoted ((rounds + 1) * most) old new
   moved_round rounds most old middle new first second =
       let one_more : (rounds + 1) * most ≡ rounds * most + most = add-mul rounds 1 most
-          ∙ ap (λ n. rounds * most + n) (one-mul most) in
+      ∙ ap (λ n. rounds * most + n) (one-mul most) in
       moved_wider IsNoted (rounds * most + most) ((rounds + 1) * most) old new (omega (arith, one_more))
       (moved_join IsNoted (rounds * most) most old middle new first second)
 
@@ -28,7 +28,7 @@ module _ {L : Type 0} (IsNoted : L → Step → L → Type 0) where
   moved_twice rounds most old middle new first second =
       let sum : 2 * most ≡ most + most = omega arith in
       let is : rounds * (2 * most) ≡ rounds * most + rounds * most = ap (λ n. rounds * n) sum
-          ∙ mul-add rounds most most in
+      ∙ mul-add rounds most most in
       moved_wider IsNoted (rounds * most + rounds * most) (rounds * (2 * most)) old new (omega (arith, is))
       (moved_join IsNoted (rounds * most) (rounds * most) old middle new first second)
 
@@ -53,7 +53,7 @@ module _ {L : Type 0} (IsNoted : L → Step → L → Type 0) where
       → MovedAtMost IsNoted most old new
   moved_first most old new some one =
       moved_wider IsNoted 1 most old new (omega (arith, some)) (moved_more IsNoted 0 old old new
-          (moved_none IsNoted 0 old) one)
+      (moved_none IsNoted 0 old) one)
 
   -- one move for the first of some arcs, and some for those after it
   pub moved_on : (count later most : ℕ) (old middle new : Tally L) → 0 < count → count ≤ most → later ≡ count - 1

@@ -85,7 +85,7 @@ module _ (word other : List ℕ) (place : ℕ) (long : length other ≡ length w
       let same : take place other ≡ take place word =
       sym (slice_cmp-IsAntisymmetric nat_cmp-IsAntisymmetric (take place word) (take place other) is) in
       elim (first_cases (get_or word place 0) (get_or other place 0) (drop (place + 1) word) (drop (place + 1) other)
-          before) [
+      before) [
         | inl less ↦ here same less
         | inr equal ↦ later same (take_more_same other word place 0 (omega (arith, long)) within same (sym equal))
       ]

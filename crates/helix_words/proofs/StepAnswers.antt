@@ -24,7 +24,7 @@ module _ (words : WordSet) (state code : ℕ) (row reaching : List Arc)
   each : (i : ℕ) (d : Arc) → i < length reaching → IsArcFrom words.automaton state (get_or reaching i d)
   each i d within =
       subst (IsArcFrom words.automaton state) (sym (read i d)) (are.each (reach.skipped + i) d
-          (omega (arith, left, within)))
+      (omega (arith, left, within)))
 
   where_held : (from : ℕ) (other : Step) → code ≤ from → from ≤ other.character → (arc : Arc) (k : ℕ) → k < length row
       → get_or row k arc ≡ arc → holds other.character arc ≡ true → IsHeld other.character reaching
@@ -51,7 +51,7 @@ module _ (words : WordSet) (state code : ℕ) (row reaching : List Arc)
       each = each;
       in_order = λ i j d less within.
           let order = are.in_order (reach.skipped + i) (reach.skipped + j) d (omega (arith, less))
-              (omega (arith, left, within)) in
+          (omega (arith, left, within)) in
           omega (arith, order, ap (λ (a : Arc). a.last) (read i d), ap (λ (a : Arc). a.first) (read j d));
       all = λ other goes high.
           let (arc, has, holding) = are.all other.character other.to rest goes.leads short goes.has_rest in

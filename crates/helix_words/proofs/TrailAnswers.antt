@@ -48,7 +48,7 @@ module _ (words : WordSet) where
         let is_least : IsLeastWord words (IsWordAbove old.word) new.word =
         alike_first words true old.word new.word
         (branch_least words old.word (length_of_word words old.word along.is_word) true not_equal new.word
-            takes.is_least) in record {
+        takes.is_least) in record {
           along = record { is_word = is_least.is_word; along = takes.along };
           room = takes.room;
           is_least = is_least;
@@ -90,7 +90,7 @@ module _ (automaton : Automaton) (old : Along) (along : AreAlong automaton old.w
   state_there = along_once automaton (take branch.place old.word) 0 is.steps_off.state
       (slice_index old.states branch.place)
       is.steps_off.reached (along_path automaton old.word old.states along branch.place
-          (omega (arith, is.steps_off.within)))
+      (omega (arith, is.steps_off.within)))
 
   pub turned_along : AreAlong automaton (take branch.place old.word ++ branch.step.character ∷ [])
       (take (branch.place + 1) old.states ++ branch.step.to ∷ [])
@@ -99,11 +99,11 @@ module _ (automaton : Automaton) (old : Along) (along : AreAlong automaton old.w
       (along_take automaton old.word old.states along branch.place (omega (arith, is.steps_off.within)))
       branch.step.character branch.step.to
       (subst (λ n. Leads automaton (slice_index (take (branch.place + 1) old.states) n) branch.step.character
-          branch.step.to)
+      branch.step.to)
       (sym prefix_long)
       (subst (λ s. Leads automaton s branch.step.character branch.step.to)
       (state_there ∙ sym (get_or-take (branch.place + 1) old.states branch.place 0 (omega arith)))
-          is.steps_off.goes_on.leads))
+      is.steps_off.goes_on.leads))
 
   pub turned_state : slice_index (take (branch.place + 1) old.states ++ branch.step.to ∷ [])
       (length (take branch.place old.word ++ branch.step.character ∷ [])) ≡ branch.step.to

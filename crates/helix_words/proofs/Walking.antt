@@ -140,7 +140,7 @@ module _ (automaton : Automaton) (word : List ℕ) where
     apart_step characters step steps =
         branch_of automaton word (place + 1) (Some (record { place = place; step = step })) apart
         (branch_here automaton word place state within path (All-take IsCharacter place word characters) step
-            steps.some)
+        steps.some)
 
   -- at the beginning
   pub apart_none : (place : ℕ) → place ≡ 0 → AreApart automaton word place → IsBranchOf automaton word None

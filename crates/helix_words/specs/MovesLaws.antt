@@ -46,10 +46,14 @@ module _ {L : Type 0} (IsNoted : L → Step → L → Type 0) where
 
   moves_rise : (n : ℕ) (old new : Tally L) → AreMoves IsNoted n old new → old.counts.moves ≤ last_count
       → (old.counts.moves ≤ new.counts.moves) × (new.counts.moves ≤ old.counts.moves + n)
-          × (new.counts.moves ≤ last_count)
+      × (new.counts.moves ≤ last_count)
   moves_rise zero old new is low =
-      let same = ap (λ tally. tally.counts.moves) is in (omega (arith, same), omega (arith, same), omega
-          (arith, same, low))
+      let same = ap (λ tally. tally.counts.moves) is in (
+        omega (arith, same),
+        omega (arith, same),
+        omega
+            (arith, same, low),
+      )
   moves_rise (suc n) old new (middle, before, one) low =
       let same = ap (λ counts. counts.moves) one.counted in
       let rest = moves_rise n old middle before low in

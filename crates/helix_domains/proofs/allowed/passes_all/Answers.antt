@@ -15,7 +15,7 @@ passes-requires-clause-ready c = ready_at c.args.atoms.now c.args.ready.now c.lo
 pub loop-index-preserved-then-is_chosen : goal.loop-index-preserved-then-is_chosen
 loop-index-preserved-then-is_chosen c =
     (all_more (λ signed. PassesAtom signed (cell_of c.args.value)) c.args.atoms.now c.loop-index.index
-        c.index-atoms-index.result
+    c.index-atoms-index.result
     c.loop-index-test.true c.index-atoms-index.is).1 (
       c.loop-index.invariant,
       chosen_at c.args.atoms.now c.args.chosen (cell_of c.args.value) c.loop-index.index c.index-atoms-index.result
@@ -25,7 +25,7 @@ loop-index-preserved-then-is_chosen c =
 pub loop-index-preserved : goal.loop-index-preserved
 loop-index-preserved c =
     (all_more (λ signed. PassesAtom signed (cell_of c.args.value)) c.args.atoms.now c.loop-index.index
-        c.index-atoms-index.result
+    c.index-atoms-index.result
     c.loop-index-test.true c.index-atoms-index.is).1 (c.loop-index.invariant, c.passes.ensures.0 c.if-not-passes.false)
 
 pub returns : goal.returns

@@ -14,7 +14,7 @@ returns c =
     let short : FitsSigned w64 c.in-Some-at_or_after.at = search rules in
     let least = simp to_z-of_z at c.in-Some-at_or_after.ensures in
     subst (IsLeastAdmitted (IsOnLine Moments (IsMember (ladder_on Moments) c.args.grid.now.level
-        c.args.grid.now.tests)) c.args.mark)
+    c.args.grid.now.tests)) c.args.mark)
     (sym c.set.ensures)
     (simp to_z-of_z (least_on Moments (IsMember (ladder_on Moments) c.args.grid.now.level c.args.grid.now.tests)
     (small_member Moments c.args.grid.now.level c.args.grid.now.tests) c.args.mark c.in-Some.bound

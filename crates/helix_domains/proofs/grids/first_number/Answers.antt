@@ -13,7 +13,7 @@ returns c =
     let answer : FitsSigned w128 c.in-Some-at_or_after.units = search rules in
     let least = simp to_z-of_z at c.in-Some-at_or_after.ensures in
     subst (IsLeastAdmitted (IsOnLine Numbers (IsMember (ladder_on Numbers) c.args.grid.now.level
-        c.args.grid.now.tests)) c.args.mark)
+    c.args.grid.now.tests)) c.args.mark)
     (sym c.set.ensures)
     (simp to_z-of_z (least_on Numbers (IsMember (ladder_on Numbers) c.args.grid.now.level c.args.grid.now.tests)
     (small_member Numbers c.args.grid.now.level c.args.grid.now.tests) c.args.mark c.in-Some.bound

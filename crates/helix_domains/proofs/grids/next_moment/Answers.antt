@@ -11,7 +11,7 @@ use Rattle.helix_domains.proofs.grids.next_moment.Goals as goal
 pub unreachable-requires : goal.unreachable-requires
 unreachable-requires c =
     let on = from_line Moments (IsMember (ladder_on Moments) c.args.grid.now.level c.args.grid.now.tests)
-        c.args.slot.now c.requires in
+    c.args.slot.now c.requires in
     c.in_default.ensures.none on.0 (c.view.ensures ∙ on.1)
 
 pub after-requires : goal.after-requires
@@ -27,10 +27,10 @@ returns-in-Some-after c =
     let short : FitsSigned w64 c.in-Some-after.next = search rules in
     let least = simp to_z-of_z at c.in-Some-after.ensures in
     subst (IsLeastAbove (IsOnLine Moments (IsMember (ladder_on Moments) c.args.grid.now.level c.args.grid.now.tests))
-        c.args.slot.now)
+    c.args.slot.now)
     (sym c.set.ensures)
     (simp to_z-of_z (next_on Moments (IsMember (ladder_on Moments) c.args.grid.now.level c.args.grid.now.tests)
-        c.in-Some.at
+    c.in-Some.at
     c.args.slot.now (sym c.view.ensures ∙ c.in-Some.ensures.some) c.in-Some-after.next least))
 
 pub returns-in-None : goal.returns-in-None

@@ -11,7 +11,7 @@ use Rattle.helix_domains.proofs.grids.next_number.Goals as goal
 pub unreachable-requires : goal.unreachable-requires
 unreachable-requires c =
     let on = from_line Numbers (IsMember (ladder_on Numbers) c.args.grid.now.level c.args.grid.now.tests)
-        c.args.slot.now c.requires in
+    c.args.slot.now c.requires in
     c.in_default.ensures.none on.0 (c.view.ensures ∙ on.1)
 
 pub after-requires : goal.after-requires
@@ -26,10 +26,10 @@ returns-in-Some-after c =
     let answer : FitsSigned w128 c.in-Some-after.next = search rules in
     let least = simp to_z-of_z at c.in-Some-after.ensures in
     subst (IsLeastAbove (IsOnLine Numbers (IsMember (ladder_on Numbers) c.args.grid.now.level c.args.grid.now.tests))
-        c.args.slot.now)
+    c.args.slot.now)
     (sym c.set.ensures)
     (simp to_z-of_z (next_on Numbers (IsMember (ladder_on Numbers) c.args.grid.now.level c.args.grid.now.tests)
-        c.in-Some.units
+    c.in-Some.units
     c.args.slot.now (sym c.view.ensures ∙ c.in-Some.ensures.some) c.in-Some-after.next least))
 
 pub returns-in-None : goal.returns-in-None

@@ -11,13 +11,13 @@ loop-cell-preserved c =
     elim c.if-is_above_last.branch [
       | then-is_above_last+in_ok-copy+in_ok-push w ↦
           let pushed = w.all-is ∙ w.in_ok-push.ensures.ok
-              ∙ ap (λ x. c.loop-cell.all ++ x ∷ []) w.in_ok-copy.ensures in record {
+          ∙ ap (λ x. c.loop-cell.all ++ x ∷ []) w.in_ok-copy.ensures in record {
             ascending = subst AreAscending (sym pushed) (ascending_push c.loop-cell.all c.cell-item.result
                 c.loop-cell.invariant.ascending (subst (λ l. IsAboveLast l c.cell-item.result) c.as_slice.ensures
                 (c.is_above_last.ensures.0 w.if-is_above_last.true)));
             same = subst (HaveSameCells (take (c.loop-cell.cell-index + 1) c.args.cells.now)) (sym pushed)
                 (same_in c.args.cells.now c.loop-cell.all c.loop-cell.cell-index c.cell-item.result
-                    c.loop-cell-test.true
+                c.loop-cell-test.true
                 c.cell-item.is c.loop-cell.invariant.same);
           }
       | else-is_above_last w ↦ record {

@@ -11,7 +11,7 @@ loop-low-preserved-then-is_admitted c = record {
   before = c.loop-low.invariant.before;
   from = all_from c.args.cells.now c.requires c.args.mark _ c.index-cells-middle.result (omega arith)
       (subst (IsAdmitted c.args.mark) (c.view.ensures ∙ c.index-cells-middle.is)
-          (c.is_admitted.ensures.0 c.if-is_admitted.true));
+      (c.is_admitted.ensures.0 c.if-is_admitted.true));
 }
 
 pub loop-low-preserved : goal.loop-low-preserved

@@ -10,5 +10,5 @@ loop-state-preserved c = dead_more c.args.dfa.now c.loop-state.state c.states-st
 pub returns : goal.returns
 returns c = λ word accepts. none_from c.args.dfa.now
     (λ k below. c.loop-state.invariant k
-        (omega (arith, below, c.loop-state-test.false, c.states-state-end.ensures.number)))
+    (omega (arith, below, c.loop-state-test.false, c.states-state-end.ensures.number)))
     word 0 (omega (arith, c.states-state-end.ensures.some, c.states-state-end.ensures.number)) accepts

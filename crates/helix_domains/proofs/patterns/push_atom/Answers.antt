@@ -11,7 +11,7 @@ use Rattle.helix_domains.proofs.patterns.push_atom.Goals.{in-Matching+in_ok-dfa-
 pub returns : goal.returns
 returns c =
     let exact : (word : List ℕ) → All IsCharacter word → Accepts c.match-signed.dfa word
-        ↔ PassesWord c.args.signed.now word =
+    ↔ PassesWord c.args.signed.now word =
     elim c.match-signed.branch [
       | in-Matching+in_ok-dfa-in-Matching w ↦ as_word c.args.signed.now (test.Matching w.in-Matching.regex)
           c.match-signed.dfa w.in_ok-dfa-in-Matching.dfa w.dfa-is w.in-Matching.is w.in_ok-dfa-in-Matching.ensures

@@ -7,7 +7,7 @@ pub loop-index-preserved : goal.loop-index-preserved
 loop-index-preserved c =
     subst (AreReady (take (c.loop-index.index + 1) c.args.atoms.now)) (sym c.in_ok-push.ensures.items)
     (ready_more c.args.atoms.now c.loop-index.all.items c.loop-index.index c.index-atoms-index.result
-        c.in_ok-ready_for.field-0
+    c.in_ok-ready_for.field-0
     c.loop-index-test.true c.index-atoms-index.is c.in_ok-ready_for.ensures c.loop-index.invariant)
 
 pub returns : goal.returns

@@ -10,5 +10,5 @@ returns c =
     text_values c.args.kind c.requires.class c.args.atoms.now c.requires.atoms c.in_ok-lengths.lengths
     c.in_ok-lengths.ensures.exact c.in_ok-dfa.dfa c.in_ok-dfas_of.field-0.items c.in_ok-dfa.ensures
     c.in_ok-dfas_of.ensures c.if-lengths.false c.in_ok-lengths.ensures.end c.in_ok-refusing.field-0
-        c.as_slice-refused.result.now
+    c.as_slice-refused.result.now
     c.in_ok-refusing.ensures c.as_slice-refused.ensures c.see_arcs.ensures

@@ -6,14 +6,14 @@ use Rattle.helix_legacy.proofs.names.names_fault.Goals as goal
 pub returns-then-has_faulty_name : goal.returns-then-has_faulty_name
 returns-then-has_faulty_name c = found_name c.args.rules.now c.loop-i.i c.index-rules-i.result c.loop-i-test.true
     c.index-rules-i.is c.loop-i.invariant c.has_faulty_name.result (take c.loop-i.i c.args.rules.now) refl
-        c.has_faulty_name.ensures c.if-has_faulty_name.true
+    c.has_faulty_name.ensures c.if-has_faulty_name.true
     c.step_out.new.self
     (c.in_ok-step_out.ensures.ok ∙ ap (λ p. step.Item c.loop-i.i ∷ p) c.in_ok-place.ensures)
 
 pub loop-i-preserved : goal.loop-i-preserved
 loop-i-preserved c = next_name c.args.rules.now c.loop-i.i c.index-rules-i.result c.loop-i-test.true
     c.index-rules-i.is c.loop-i.invariant c.has_faulty_name.result (take c.loop-i.i c.args.rules.now) refl
-        c.has_faulty_name.ensures c.if-has_faulty_name.false
+    c.has_faulty_name.ensures c.if-has_faulty_name.false
 
 pub returns : goal.returns
 returns c = no_name c.args.rules.now c.loop-i.i c.loop-i-test.false c.loop-i.invariant

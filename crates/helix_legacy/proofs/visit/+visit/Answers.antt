@@ -11,12 +11,12 @@ in_object-returns-in-Test t c =
 pub in_object-returns-in-Operands : goal.in_object-returns-in-Operands
 in_object-returns-in-Operands t c =
     operands_say c.args.members.now c.in_operands.result (sym c.form_of.ensures
-        ∙ c.in-Operands.is) c.in_operands.ensures
+    ∙ c.in-Operands.is) c.in_operands.ensures
 
 pub in_object-returns-in-Branches : goal.in_object-returns-in-Branches
 in_object-returns-in-Branches t c =
     branches_say c.args.members.now c.in_branches.result (sym c.form_of.ensures
-        ∙ c.in-Branches.is) c.in_branches.ensures
+    ∙ c.in-Branches.is) c.in_branches.ensures
 
 pub in_object-returns-in-Other : goal.in_object-returns-in-Other
 in_object-returns-in-Other t c = λ keys. other_finds c.args.members.now (sym c.form_of.ensures ∙ c.in-Other.is)

@@ -15,7 +15,7 @@ returns-in_ok-push_each-in-All c = each_goes_on c.args.nullable.now c.args.deman
 pub returns-else-sign : goal.returns-else-sign
 returns-else-sign c = if_ok _ _ c.choose.result
     (λ alive goes. one_goes_on c.args.nullable.now c.args.branch.now c.args.others.now.items c.args.demand
-        c.in-All.parts
+    c.in-All.parts
     false (with_branch c.args.nullable.now alive c.choose.new.branch c.choose.new.others.items)
     (search-All-minus c.args.nullable.now c.in-All.parts c.args.branch.now.literals
     (search_all c.args.nullable.now c.args.branch.now.demands one_path)
@@ -26,7 +26,7 @@ returns-else-sign c = if_ok _ _ c.choose.result
 pub returns-then-sign-2 : goal.returns-then-sign-2
 returns-then-sign-2 c = if_ok _ _ c.choose-then-sign-2.result
     (λ alive goes. one_goes_on c.args.nullable.now c.args.branch.now c.args.others.now.items c.args.demand
-        c.in-Any.parts
+    c.in-Any.parts
     true (with_branch c.args.nullable.now alive c.choose-then-sign-2.new.branch
     c.choose-then-sign-2.new.others.items)
     (search-Any-plus c.args.nullable.now c.in-Any.parts c.args.branch.now.literals

@@ -44,7 +44,7 @@ returns-then-are_equal c =
     (filled_set c.args.dfa.now c.loop-count.count c.loop-count.blocks c.loop-count.block.items c.set_bits.new.block
     c.loop-count.invariant.filled
     (sets_same (c.loop-count.count % 64) (c.as_slice.ensures ∙ c.loop-count.invariant.column)
-        c.as_mut_slice.ensures.value
+    c.as_mut_slice.ensures.value
     c.set_bits.ensures))
     (column_from c.args.dfa.now form c.loop-count.count same c.args.longest))
 
@@ -62,12 +62,12 @@ loop-count-preserved c =
           c.set_bits.new.block
           c.close.new.block.items
           (filled_set c.args.dfa.now c.loop-count.count c.loop-count.blocks c.loop-count.block.items
-              c.set_bits.new.block
+          c.set_bits.new.block
           c.loop-count.invariant.filled
           (sets_same (c.loop-count.count % 64) (c.as_slice.ensures ∙ c.loop-count.invariant.column)
           c.as_mut_slice.ensures.value c.set_bits.ensures))
           (subst (λ block. Closes c.loop-count.count c.loop-count.blocks c.close.new.blocks block
-              c.close.new.block.items)
+          c.close.new.block.items)
           back c.in_ok-close.ensures);
     }
 

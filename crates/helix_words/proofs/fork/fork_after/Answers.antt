@@ -24,7 +24,7 @@ returns-then-not-fits-clause-fork g c = λ state on.
     (λ has. false≢true (sym c.if-not-fits.true ∙ c.requires.fits.1 has)) c.step_among.result
     (λ state are. c.step_among.ensures.step state
     (subst (AreArcsTo c.args.words.now.automaton state (c.args.code + 1) c.args.rest)
-        (sym (later_are c.args.arcs.now)) are))
+    (sym (later_are c.args.arcs.now)) are))
 
 pub returns-then-not-fits-clause-moves : goal.returns-then-not-fits-clause-moves
 returns-then-not-fits-clause-moves g c =
@@ -55,11 +55,11 @@ returns-in-None-clause-fork g c = λ state on.
     c.step_among-in-None.result
     (λ state are. c.step_among-in-None.ensures.step state
     (subst (AreArcsTo c.args.words.now.automaton state (c.args.code + 1) c.args.rest)
-        (sym (later_are c.args.arcs.now)) are))
+    (sym (later_are c.args.arcs.now)) are))
 
 pub returns-in-None-clause-moves : goal.returns-in-None-clause-moves
 returns-in-None-clause-moves g c =
     moved_wider g.L.Ledger.IsNoted (length (take (length c.args.arcs.now - 1) (drop 1 c.args.arcs.now)))
     (length c.args.arcs.now - 1) c.args.steps.now c.step_among-in-None.new.steps
     (omega (arith, ap length (later_are c.args.arcs.now), length-drop 1 c.args.arcs.now))
-        c.step_among-in-None.ensures.moves
+    c.step_among-in-None.ensures.moves

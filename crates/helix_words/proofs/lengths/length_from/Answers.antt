@@ -10,7 +10,7 @@ returns-clause-some c =
     c.words.invariant in
     length_found c.args.words.now c.as_slice.result.now
     (subst (AreLengths (IsLengthOf c.args.words.now)) (sym c.as_slice.ensures) are.are_lengths) are.short
-        are.well_formed.some
+    are.well_formed.some
     c.args.from
     c.number_from.result c.number_from.ensures
 
@@ -20,6 +20,6 @@ returns-clause-none c =
     c.words.invariant in
     length_missing c.args.words.now c.as_slice.result.now
     (subst (AreLengths (IsLengthOf c.args.words.now)) (sym c.as_slice.ensures) are.are_lengths) are.short
-        are.well_formed.some
+    are.well_formed.some
     c.args.from
     c.number_from.result c.number_from.ensures

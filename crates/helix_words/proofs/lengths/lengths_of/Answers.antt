@@ -10,10 +10,10 @@ loop-count-preserved c =
     elim c.if-has_rest.branch [
       | then-has_rest+then-not-is_refused+in_ok-push w ↦
           subst (AreLengthsBelow (IsAllowed c.args.table.now c.args.shortest c.args.longest c.args.refused.now)
-              (c.loop-count.count + 1))
+          (c.loop-count.count + 1))
           (sym (w.lengths-is ∙ w.in_ok-push.ensures.ok))
           (lengths_push (IsAllowed c.args.table.now c.args.shortest c.args.longest c.args.refused.now)
-              c.loop-count.count
+          c.loop-count.count
           c.loop-count.lengths c.loop-count.invariant (record {
             not_short = c.loop-count.auto.count;
             not_long = omega (arith, c.loop-count-test.true);
@@ -22,10 +22,10 @@ loop-count-preserved c =
           }))
       | else-has_rest w ↦
           subst (AreLengthsBelow (IsAllowed c.args.table.now c.args.shortest c.args.longest c.args.refused.now)
-              (c.loop-count.count + 1))
+          (c.loop-count.count + 1))
           (sym w.lengths-is)
           (lengths_skip (IsAllowed c.args.table.now c.args.shortest c.args.longest c.args.refused.now)
-              c.loop-count.count
+          c.loop-count.count
           c.loop-count.lengths c.loop-count.invariant (λ allowed. elim w.else-has_rest.branch [
             | else-has_rest-via-then-has_rest+else-not-is_refused w' ↦
                 allowed.not_refused (w'.is_refused.ensures.0 w'.if-not-is_refused.false)

@@ -26,7 +26,7 @@ returns-then-not-strict-clause-answer g c = record {
 pub returns-in-Some-clause-answer : goal.returns-in-Some-clause-answer
 returns-in-Some-clause-answer g c =
     let not : ¬ ((c.args.strict ≡ false) × IsRest c.args.words.now.automaton 0 (length c.args.word.now)
-        c.args.word.now) =
+    c.args.word.now) =
     λ both. elim c.else-walk.branch [
       | else-walk-via-then-walk+else-not-strict w ↦ false≢true (sym both.0 ∙ w.if-not-strict.false)
       | else-walk-via-else-walk w ↦ false≢true (sym w.if-walk.false ∙ c.walk_along-walk.ensures.walk.accepted.1 both.1)
@@ -46,7 +46,7 @@ returns-in-Some-clause-moves g c =
 pub returns-in-None-clause-answer : goal.returns-in-None-clause-answer
 returns-in-None-clause-answer g c =
     let not : ¬ ((c.args.strict ≡ false) × IsRest c.args.words.now.automaton 0 (length c.args.word.now)
-        c.args.word.now) =
+    c.args.word.now) =
     λ both. elim c.else-walk.branch [
       | else-walk-via-then-walk+else-not-strict w ↦ false≢true (sym both.0 ∙ w.if-not-strict.false)
       | else-walk-via-else-walk w ↦ false≢true (sym w.if-walk.false ∙ c.walk_along-walk.ensures.walk.accepted.1 both.1)
@@ -54,5 +54,5 @@ returns-in-None-clause-answer g c =
       refl,
       branch_none c.args.words.now c.args.word.now c.requires.length c.args.strict not
           (subst (IsBranchOf c.args.words.now.automaton c.args.word.now) c.in-None.is
-              c.walk_along-walk.ensures.walk.branch),
+          c.walk_along-walk.ensures.walk.branch),
     )

@@ -17,7 +17,7 @@ returns-clause-answer g c =
     elim c.else-has_length.branch [
       | else-has_length-via-then-has_length+else-put_alike w ↦
           (let none = subst (λ b. IsWordAnswer c.args.words.now (IsAlikeFrom c.args.strict c.args.word.now) b
-              c.args.out.now
+          c.args.out.now
           w.put_alike.new.out) w.if-put_alike.false w.put_alike.ensures.answer in
           longer_answer c.args.words.now c.args.strict c.args.word.now none.1 c.put_long.result c.args.out.now
           c.put_long.new.out

@@ -24,7 +24,7 @@ loop-arc-preserved g c = record {
     | then-has_rest+in_default w ↦
         arc_empty c.args.words.now.automaton c.args.from c.args.rest c.args.arcs.now c.loop-arc.arc-index
         (record { first = 0; last = 0; to = 0 }) c.loop-arc-test.true c.loop-arc.invariant.passed
-            w.in_default.ensures.none
+        w.in_default.ensures.none
     | else-has_rest w ↦
         arc_dead c.args.words.now.automaton c.args.from c.args.rest c.args.arcs.now c.loop-arc.arc-index
         (record { first = 0; last = 0; to = 0 }) c.loop-arc-test.true c.loop-arc.invariant.passed
@@ -37,5 +37,5 @@ loop-arc-preserved g c = record {
 pub returns-clause-step : goal.returns-clause-step
 returns-clause-step g c =
     arcs_none c.args.words.now.automaton c.args.from c.args.rest c.args.arcs.now c.loop-arc.arc-index
-        c.loop-arc-test.false
+    c.loop-arc-test.false
     c.loop-arc.invariant.passed

@@ -9,7 +9,7 @@ step_among-requires-clause-within g c = λ i d within. (c.arcs_from.ensures.each
 pub returns-clause-step : goal.returns-clause-step
 returns-clause-step g c =
     c.step_among.ensures.step c.args.state (c.arcs_from.ensures.are c.args.from c.args.rest
-        (omega arith) c.requires.rest)
+    (omega arith) c.requires.rest)
 
 pub returns-clause-moves : goal.returns-clause-moves
 returns-clause-moves g c =

@@ -20,7 +20,7 @@ step_above-requires-clause-state g c =
     c.words.invariant in
     let within = along_within c.args.words.now.automaton c.args.trail.now.word c.args.trail.now.states c.requires.along
     are.well_formed (length c.word-count.result.now - c.loop-back.back - 1)
-        (omega (arith, ap length c.word-count.ensures)) in
+    (omega (arith, ap length c.word-count.ensures)) in
     omega (arith, within, c.state.ensures)
 
 pub overflow_cast-back : goal.overflow_cast-back
@@ -41,7 +41,7 @@ returns-in-Some-clause-branch g c =
     (length c.word-count.result.now) c.loop-back.back (ap length c.word-count.ensures) c.loop-back-test.true
     c.state.result _ c.state.ensures
     (ap (λ l. get_or l (length c.word-count.result.now - c.loop-back.back - 1) 0) c.word.ensures)
-        c.loop-back.invariant.apart
+    c.loop-back.invariant.apart
     c.requires.characters c.in-Some.step c.in-Some.ensures.step
 
 pub returns-in-Some-clause-moves : goal.returns-in-Some-clause-moves
@@ -72,6 +72,6 @@ returns-clause-branch g c =
 pub returns-clause-moves : goal.returns-clause-moves
 returns-clause-moves g c =
     moved_fewer g.L.Ledger.IsNoted c.loop-back.back (length c.args.trail.now.word)
-        (most_arcs c.args.words.now.automaton)
+    (most_arcs c.args.words.now.automaton)
     c.args.steps.now c.loop-back.steps (omega (arith, ap length c.word-count.ensures, c.loop-back.auto.back-end))
     c.loop-back.invariant.moved

@@ -22,7 +22,7 @@ extend-requires-clause-state g c =
 pub extend-requires-clause-rest : goal.extend-requires-clause-rest
 extend-requires-clause-rest g c =
     subst (λ (trail : Along). HasRest c.args.words.now.automaton (slice_index trail.states (length trail.word))
-        c.in-Some.count)
+    c.in-Some.count)
     (sym c.clear.ensures) c.in-Some.ensures.some.is_length.has_rest
 
 pub extend-requires-clause-room : goal.extend-requires-clause-room
@@ -30,7 +30,7 @@ extend-requires-clause-room g c =
     let low = starts_in_room c.args.words.now c.in-Some.count c.args.trail.now.room c.in-Some.ensures.some.is_length
     c.requires in
     subst (λ (trail : Along). length trail.word + c.in-Some.count ≤ trail.room) (sym c.clear.ensures)
-        (omega (arith, low))
+    (omega (arith, low))
 
 pub returns-in-Some-clause-answer : goal.returns-in-Some-clause-answer
 returns-in-Some-clause-answer g c =

@@ -28,7 +28,7 @@ extend-requires-clause-along g c =
 pub extend-requires-clause-state : goal.extend-requires-clause-state
 extend-requires-clause-state g c =
     let state = turned_state c.args.words.now.automaton c.args.trail.now c.requires.along c.args.branch
-        c.requires.branch in
+    c.requires.branch in
     subst (λ (t : Along). slice_index t.states (length t.word) < length c.args.words.now.automaton.moves)
     (sym (pushed c.truncate.new.self c.push.new.self _ _ _ _ _ c.push.ensures c.truncate.ensures))
     (omega (arith, state, c.requires.branch.steps_off.to_within))
@@ -46,7 +46,7 @@ extend-requires-clause-rest g c =
 pub extend-requires-clause-room : goal.extend-requires-clause-room
 extend-requires-clause-room g c =
     let long = turned_length c.args.words.now.automaton c.args.trail.now c.requires.along c.args.branch
-        c.requires.branch in
+    c.requires.branch in
     subst (λ (t : Along). length t.word + (length c.word.result.now - c.args.branch.place - 1) ≤ t.room)
     (sym (pushed c.truncate.new.self c.push.new.self _ _ _ _ _ c.push.ensures c.truncate.ensures))
     (omega (arith, long, ap length c.word.ensures, c.requires.branch.steps_off.within, c.requires.room))
@@ -61,7 +61,7 @@ returns-clause-takes g c =
       room = c.args.trail.now.room;
     }) c.extend.new.trail) c.word.ensures
     (subst (λ t. Extends c.args.words.now.automaton (length c.word.result.now - c.args.branch.place - 1) t
-        c.extend.new.trail)
+    c.extend.new.trail)
     (pushed c.truncate.new.self c.push.new.self _ _ _ _ _ c.push.ensures c.truncate.ensures) c.extend.ensures.extends))
 
 pub returns-clause-moves : goal.returns-clause-moves

@@ -30,7 +30,7 @@ returns-in-Some-clause-moves g c =
     moved_question g.L.Ledger.IsNoted (length c.args.trail.now.word) (length c.args.trail.now.word)
     (most_arcs c.args.self.now.automaton) c.args.steps.now c.deepest_branch.new.steps c.take_branch.new.steps
     (omega (arith, c.requires.along.is_word.not_long, are.short))
-        (omega (arith, c.requires.along.is_word.not_long, are.short))
+    (omega (arith, c.requires.along.is_word.not_long, are.short))
     c.deepest_branch.ensures.moves c.take_branch.ensures.moves
 
 pub returns-in-None-clause-answer : goal.returns-in-None-clause-answer

@@ -26,6 +26,6 @@ invariant_of-result c =
       is_table = c.in_ok-table.ensures;
       are_lengths = lengths_tabled set c.in_ok-table.table c.in_ok-lengths.lengths form.some c.in_ok-table.ensures
           (subst (λ refused. AreLengths (IsAllowed c.in_ok-table.table c.args.shortest c.args.longest refused)
-              c.in_ok-lengths.lengths)
+          c.in_ok-lengths.lengths)
           (sym (c.from_vec-refused.ensures ∙ c.in_ok-from_slice.ensures.items)) c.in_ok-lengths.ensures);
     }
