@@ -1,7 +1,6 @@
 -- The first broken rule, by what each search found.
-use Rattle.std.proofs.Common.{◌≡◌, ℕ, ◌<◌, ◌⊎◌, inl, inr, Bool, true, false, List, [], ◌∷◌, Option, Some, None, is_some, IsTrue, codes, refl, sym, ◌∙◌, ap, subst, arith}
+use Rattle.std.proofs.Common.{◌≡◌, ℕ, ◌<◌, inl, true, false, List, [], ◌∷◌, Option, Some, None, is_some, IsTrue, codes, refl, sym, ◌∙◌, ap, subst, arith}
 use Rattle.std.specs.Option.{IsSomeAnd}
-use Rattle.std.specs.List.{AllByRecursion}
 use Rattle.helix_json.specs.declared.value.Json.{Json}
 use Rattle.helix_json.specs.declared.value.Json.TheViews as view
 use Rattle.helix_json.specs.declared.value.Member.{Member}
@@ -12,11 +11,11 @@ use Rattle.helix_legacy.specs.declared.fault.LegacyRule.{LegacyRule}
 use Rattle.helix_legacy.specs.declared.fault.LegacyRule.TheVariants as rule
 use Rattle.helix_legacy.specs.declared.place.Step.{Step}
 use Rattle.helix_legacy.specs.declared.place.Step.TheVariants as step
-use Rattle.helix_legacy.specs.Members.{members_of, items_of, value_of, has_key}
+use Rattle.helix_legacy.specs.Members.{members_of, value_of, has_key}
 use Rattle.helix_legacy.specs.Broken.{Broken, is_older, HasConstraints, BreaksForm, BreaksName, BreaksATest, IsFirstBroken, IsUnbroken, rank}
 use Rattle.helix_legacy.specs.Places.{Finds, IsFirstPlace, InMember, Here}
 use Rattle.helix_legacy.specs.Inner.Parts.{IsBreach}
-use Rattle.helix_legacy.proofs.Finding.{finds_only, some_and, and_some, none_in_member, first_in_member}
+use Rattle.helix_legacy.proofs.Finding.{and_some, none_in_member, first_in_member}
 use Rattle.helix_legacy.proofs.Keyed.{Leads, leads, all_at}
 use Rattle.helix_legacy.proofs.Views.{members_of_object}
 

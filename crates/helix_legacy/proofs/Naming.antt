@@ -1,16 +1,16 @@
 -- The names of rules, one after the other.
-use Rattle.std.proofs.Common.{◌≡◌, ◌↔◌, ◌⊎◌, inl, inr, ⊎_elim, ℕ, ◌+◌, ◌<◌, ◌≤◌, Bool, true, false, not, ◌||◌, IsTrue, List, [], ◌∷◌, length, take, Option, Some, None, Result, IfOk, slice_get, get_or, codes, refl, sym, ◌∙◌, ap, subst, arith}
+use Rattle.std.proofs.Common.{◌≡◌, ◌↔◌, ◌⊎◌, inl, inr, ⊎_elim, ℕ, ◌+◌, ◌<◌, ◌≤◌, Bool, true, false, IsTrue, List, [], ◌∷◌, length, take, Option, Some, None, Result, IfOk, slice_get, get_or, codes, refl, sym, ◌∙◌, ap, subst, arith}
 use Rattle.std.specs.Option.{IsSomeAnd}
 use Rattle.std.proofs.lemmas.Bool.{cases_lt}
-use Rattle.std.proofs.lemmas.Option.{slice_get_read, slice_get_within, slice_get_past}
+use Rattle.std.proofs.lemmas.Option.{slice_get_read, slice_get_past}
 use Rattle.helix_base.specs.declared.memory.Memory.{Memory}
 use Rattle.helix_json.specs.declared.value.Json.{Json}
 use Rattle.helix_json.specs.declared.value.Json as json
 use Rattle.helix_json.specs.declared.value.Json.TheViews as view
 use Rattle.helix_legacy.specs.declared.place.Step.{Step}
 use Rattle.helix_legacy.specs.declared.place.Step.TheVariants as step
-use Rattle.helix_legacy.specs.Members.{items_of, is_string, value_of, members_of}
-use Rattle.helix_legacy.specs.Broken.{BreaksName, IsFaultyName, is_name, is_name_text, name_at, name_in, name_of_some}
+use Rattle.helix_legacy.specs.Members.{items_of, is_string}
+use Rattle.helix_legacy.specs.Broken.{BreaksName, IsFaultyName, is_name, name_at, name_in, name_of_some}
 use Rattle.helix_legacy.specs.Places.{Finds, Precedes}
 use Rattle.helix_legacy.proofs.Keyed.{NoneBefore}
 use Rattle.helix_legacy.proofs.Views.{items_of_list}

@@ -1,7 +1,6 @@
 -- The first place in the members of an object or the items of a list, which are searched in their order.
 use Rattle.std.proofs.Common.{◌≡◌, ℕ, ◌+◌, ◌<◌, ◌≤◌, ◌⊎◌, inl, inr, List, [], ◌∷◌, length, Option, Some, None, slice_get, get_or, refl, sym, ◌∙◌, ap, subst, arith}
 use Rattle.std.specs.Option.{IsSomeAnd}
-use Rattle.std.specs.List.{AllByRecursion}
 use Rattle.std.proofs.lemmas.Bool.{cases_lt}
 use Rattle.std.proofs.lemmas.Option.{slice_get_read}
 use Rattle.helix_json.specs.declared.value.Json.{Json}
@@ -14,9 +13,9 @@ use Rattle.helix_legacy.specs.declared.place.Step.TheVariants as step
 use Rattle.helix_legacy.specs.Members.{members_of, items_of, value_of}
 use Rattle.helix_legacy.specs.Places.{part, index_of, index_of_part, IsFirstPlace, Finds, InItem}
 use Rattle.helix_legacy.specs.Inner.Parts.{InPart}
-use Rattle.helix_legacy.proofs.Finding.{some_and, and_some, first_in_part}
+use Rattle.helix_legacy.proofs.Finding.{and_some, first_in_part}
 use Rattle.helix_legacy.proofs.Keyed.{Leads, leads, value_at, index_at, all_at, NoneBefore, none_at_all, none_more}
-use Rattle.helix_legacy.proofs.Views.{members_of_object, items_of_list, items_of_object, members_of_list}
+use Rattle.helix_legacy.proofs.Views.{members_of_object, items_of_list}
 
 -- a place is named in a value
 abbrev pub Named : (Json → List Step → Type 0) → Json → Type 0

@@ -1,7 +1,7 @@
 -- The form of `rules` and of a rule.
-use Rattle.std.proofs.Common.{◌≡◌, ◌↔◌, ◌⊎◌, inl, inr, ⊎_elim, Bool, true, false, ◌&&◌, List, [], ◌∷◌, length, Option, Some, None, is_some, Result, IfOk, codes, refl, sym, ◌∙◌, ap, subst}
+use Rattle.std.proofs.Common.{◌≡◌, ◌↔◌, inl, inr, ⊎_elim, Bool, true, false, List, [], ◌∷◌, Option, Some, None, is_some, Result, IfOk, codes, refl, sym, ◌∙◌, ap, subst}
 use Rattle.std.specs.Option.{IsSomeAnd}
-use Rattle.std.proofs.lemmas.Bool.{and_parts, false≢true}
+use Rattle.std.proofs.lemmas.Bool.{and_parts}
 use Rattle.helix_json.specs.declared.value.Json.{Json}
 use Rattle.helix_json.specs.declared.value.Json.TheViews as view
 use Rattle.helix_json.specs.declared.value.Member.{Member}
@@ -9,8 +9,8 @@ use Rattle.helix_json.specs.Values.{HasNoRepeatedKey}
 use Rattle.helix_base.specs.declared.memory.Memory.{Memory}
 use Rattle.helix_legacy.specs.declared.place.Step.{Step}
 use Rattle.helix_legacy.specs.declared.place.Step.TheVariants as step
-use Rattle.helix_legacy.specs.Members.{members_of, items_of, value_of, has_key, are_keys, is_list, some_is}
-use Rattle.helix_legacy.specs.Broken.{BreaksForm, BreaksRuleForm, RulesAreNoList, IsNoRule, ConstraintsAreNoList, is_rule}
+use Rattle.helix_legacy.specs.Members.{members_of, value_of, has_key, are_keys, is_list, some_is}
+use Rattle.helix_legacy.specs.Broken.{BreaksForm, BreaksRuleForm, is_rule}
 use Rattle.helix_legacy.specs.Places.{Finds, InItem, Here}
 use Rattle.helix_legacy.proofs.Finding.{finds_same, finds_top_at, some_and, and_some}
 use Rattle.helix_legacy.proofs.Views.{members_of_object}

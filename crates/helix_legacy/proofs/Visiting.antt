@@ -1,5 +1,5 @@
 -- Where tests are broken in a visited value, by its form.
-use Rattle.std.proofs.Common.{◌≡◌, ◌≢◌, ◌↔◌, ◌⊎◌, inl, inr, ⊎_elim, ℕ, Bool, true, false, List, [], ◌∷◌, Option, Some, None, Result, Ok, Err, IfOk, if◌then◌else◌, refl, sym, ◌∙◌, ap, subst}
+use Rattle.std.proofs.Common.{◌≡◌, ◌↔◌, inl, inr, ⊎_elim, false, List, [], ◌∷◌, Option, Some, None, Result, Ok, Err, IfOk, if◌then◌else◌, refl, sym, ◌∙◌, ap, subst}
 use Rattle.std.specs.Option.{IsSomeAnd}
 use Rattle.helix_json.specs.declared.value.Json.{Json}
 use Rattle.helix_json.specs.declared.value.Json.TheViews as view
@@ -10,14 +10,14 @@ use Rattle.helix_legacy.specs.declared.form.Form.{Form}
 use Rattle.helix_legacy.specs.declared.form.Form.TheVariants as form
 use Rattle.helix_legacy.specs.declared.place.Step.{Step}
 use Rattle.helix_legacy.specs.declared.place.Step.TheVariants as step
-use Rattle.helix_legacy.specs.Members.{members_of, items_of, is_list}
+use Rattle.helix_legacy.specs.Members.{members_of, is_list}
 use Rattle.helix_legacy.specs.Forms.{form_of, are_operand_keys, is_branch_key}
 use Rattle.helix_legacy.specs.Places.{part, Finds, InItem}
 use Rattle.helix_legacy.specs.Tests.{test_fault}
 use Rattle.helix_legacy.specs.Visited.{Role, one, many, role_of_parts, parts_by_form, own_fault, fault_by_form, BreaksTests}
 use Rattle.helix_legacy.specs.Inner.Parts.{InPart}
 use Rattle.helix_legacy.proofs.Finding.{finds_same, finds_only, some_and, and_some}
-use Rattle.helix_legacy.proofs.Views.{members_of_object, items_of_list, items_of_object, members_of_list, list_is_list}
+use Rattle.helix_legacy.proofs.Views.{members_of_object}
 
 pub if_ok : {A E : Type 0} (r : Result A E) (P Q : A → Type 0) → ((x : A) → P x → Q x) → IfOk r P → IfOk r Q
 if_ok (Ok x) P Q f h = f x h

@@ -1,5 +1,5 @@
 -- The rules of the older form: where each is broken, one definition a line of their table, and which is the first.
-use Rattle.std.specs.Prelude.{◌≡◌, ◌⊎◌, ℕ, ◌<◌, Bool, false, ◌==◌, ◌&&◌, not, nat_le, List, [], ◌∷◌, length, take, Option, Some, None, IsSomeAnd, is_some, slice_get, codes}
+use Rattle.std.specs.Prelude.{◌≡◌, ◌⊎◌, ℕ, ◌<◌, Bool, false, ◌==◌, ◌&&◌, not, nat_le, List, [], ◌∷◌, length, take, Option, Some, None, IsSomeAnd, slice_get, codes}
 use Rattle.std.specs.List.{list_all}
 use Rattle.helix_json.specs.declared.value.Json.{Json}
 use Rattle.helix_json.specs.declared.value.Json as json

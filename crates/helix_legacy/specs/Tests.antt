@@ -1,6 +1,5 @@
 -- The faults of a visited object with `is`, in the order in which they are tried.
-use Rattle.std.specs.Prelude.{◌≡◌, ℕ, Bool, true, false, if◌then◌else◌, List, [], ◌∷◌, Option, Some, None, codes}
-use Rattle.helix_json.specs.declared.value.Json.{Json}
+use Rattle.std.specs.Prelude.{if◌then◌else◌, List, [], ◌∷◌, Option, Some, None, codes}
 use Rattle.helix_json.specs.declared.value.Member.{Member}
 use Rattle.helix_legacy.specs.declared.form.Line.{Line}
 use Rattle.helix_legacy.specs.declared.form.Line.TheVariants as line

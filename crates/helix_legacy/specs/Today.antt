@@ -1,5 +1,5 @@
 -- Today's form of a value of the older form.
-use Rattle.std.specs.Prelude.{ℕ, Bool, true, if◌then◌else◌, List, [], ◌∷◌, map, Option, Some, None, bytes_eq, codes}
+use Rattle.std.specs.Prelude.{ℕ, true, if◌then◌else◌, List, [], ◌∷◌, map, Option, Some, None, bytes_eq, codes}
 use Rattle.helix_json.specs.declared.value.Json.{Json, Row_of-Json, Row_of-Member}
 use Rattle.helix_json.specs.declared.value.Json as json
 use Rattle.helix_json.specs.declared.value.Json.TheViews as view

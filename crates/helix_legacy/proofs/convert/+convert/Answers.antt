@@ -1,6 +1,6 @@
 use Rattle.std.proofs.Common.{sym, ◌∙◌}
 use Rattle.helix_legacy.specs.declared.form.Form.TheVariants as form
-use Rattle.helix_legacy.proofs.Converting.{by_form, object_converts, list_converts, list_copied, object_copied}
+use Rattle.helix_legacy.proofs.Converting.{by_form, object_converts, list_converts}
 use Rattle.helix_legacy.proofs.convert.+convert.Goals as goal
 
 pub object_today-returns-in-Test : goal.object_today-returns-in-Test

@@ -1,4 +1,4 @@
-use Rattle.std.proofs.Common.{◌≡◌, ◌-◌, [], ◌∷◌, ◌++◌, length, drop, reverse, flat_map}
+use Rattle.std.proofs.Common.{◌≡◌, ◌-◌, ◌∷◌, length, drop, reverse, flat_map}
 use Rattle.helix_legacy.specs.Pointers.{step_text}
 use Rattle.helix_legacy.proofs.pointer.pointer_of.Given as goal
 
