@@ -14,7 +14,7 @@ use Rattle.helix_partition.specs.Inner.Labels.{first_fields, LabelledBy, labelle
 use Rattle.helix_partition.specs.declared.partition.Partition.{Partition}
 use Rattle.helix_partition.proofs.Numbers.{same_numbers, none_listed, none_passes, map_same}
 use Rattle.helix_partition.proofs.Reading.{named_is_there, one_label}
-use Rattle.helix_partition.proofs.FirstFields.{first_of, names_first, by_first, at, grouped_is, first_is}
+use Rattle.helix_partition.proofs.FirstFields.{same_tests, first_of, names_first, by_first, at, grouped_is, first_is}
 use Rattle.helix_partition.proofs.GroupsPart.{is_partition}
 
 module _ (profile : Content) (valid : IsValidProfile profile) where

@@ -1,6 +1,6 @@
 -- Chains of constraints, each of which shares a field with the next: they go both ways and on. Lemmas for this crate
 -- and those above.
-use Rattle.std.proofs.Common.{◌≡◌, ℕ, zero, suc, ◌⊎◌, inl, inr, ⊎_elim, Bool, true, ◌==◌, ◌&&◌, List, ◌∷◌, length, refl, sym, subst}
+use Rattle.std.proofs.Common.{◌≡◌, ℕ, zero, suc, ◌⊎◌, inl, inr, ⊎_elim, Bool, true, ◌==◌, ◌&&◌, List, [], ◌∷◌, refl, sym, subst}
 use Rattle.std.proofs.lemmas.Bool.{false≢true, or_cases, or_left, or_right, and_parts, and_from, eqb-true, eq-eqb}
 use Rattle.std.specs.List.{list_any}
 use Rattle.helix_profile.specs.Fields.{fields_of}

@@ -1,6 +1,6 @@
 -- Linked fields: each is linked with itself, links go both ways and on, and the fields of a constraint are linked.
 -- Lemmas for this crate and those above.
-use Rattle.std.proofs.Common.{◌≡◌, ℕ, zero, suc, ◌⊎◌, inl, inr, ⊎_elim, true, List, ◌∷◌, length, refl, sym, ap, ◌∙◌, subst, arith}
+use Rattle.std.proofs.Common.{◌≡◌, ℕ, zero, suc, ◌⊎◌, inl, inr, ⊎_elim, true, List, [], ◌∷◌, length, refl, sym, ap, ◌∙◌, subst, arith}
 use Rattle.helix_profile.specs.Fields.{fields_of}
 use Rattle.helix_profile.specs.Width.{is_linked, is_in_group}
 use Rattle.helix_profile.specs.declared.constraint.Constraint.{Constraint}
