@@ -33,3 +33,6 @@ mod standing;
 
 pub use branch::Path;
 pub use paths::Paths;
+
+#[cfg(test)]
+mod tests;
