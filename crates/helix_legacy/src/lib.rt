@@ -38,3 +38,6 @@ pub use fault::{LegacyFault, LegacyRule};
 pub use older::{is_older, rule_count, rule_number, today};
 pub use place::{Place, Step};
 pub use pointer::pointer_of;
+
+#[cfg(test)]
+mod tests;
