@@ -3,6 +3,7 @@ use crate::{
 };
 use helix_base::Text;
 use helix_json::{Json, Member, read};
+use std::alloc::Global;
 use std::test::Fail;
 
 /// Whether two values are the same.
@@ -184,14 +185,20 @@ fn the_first_broken_rule_is_refused(rt: HostRuntime) -> Result<(), Fail> {
     Ok(())
 }
 
+/// The number of the rule with a name, where the text is a profile of the older form of which no rule is broken.
+fn number_of(alloc: Global, text: &str, name: &str) -> Result<Option<u32>, Fail> {
+    let json = read(alloc, text.as_bytes())?;
+    if !is_older(&json) || rule_count(&json) != 2 {
+        return Err(Fail::from("two rules were expected"));
+    }
+    let _value = today(alloc, &json)?;
+    Ok(rule_number(&json, &Text::of(alloc, name)?))
+}
+
 #[test]
 fn rules_are_numbered_by_their_names(rt: HostRuntime) -> Result<(), Fail> {
     let text =
         r#"{"rules":[{"rule":"small","constraints":[]},{"constraints":[],"rule":"above one"}]}"#;
-    let json = read(rt.alloc(), text.as_bytes())?;
-    assert!(rt; is_older(&json));
-    let _value = today(rt.alloc(), &json)?;
-    assert_eq!(rt; rule_count(&json), 2);
     let cases = [
         ("small", Some(1)),
         ("above one", Some(2)),
@@ -199,8 +206,7 @@ fn rules_are_numbered_by_their_names(rt: HostRuntime) -> Result<(), Fail> {
         ("", None),
     ];
     for (name, want) in cases {
-        let name = Text::of(rt.alloc(), name)?;
-        assert_eq!(rt; rule_number(&json, &name), want);
+        assert_eq!(rt; number_of(rt.alloc(), text, name)?, want, "{name}");
     }
     Ok(())
 }
