@@ -20,7 +20,8 @@ kept c = answer_kept c.args.json.now c.in-Some.members.now c.in_ok-breach-in-Som
     c.in_ok-whole_today-in-None-2.field-0 c.in-Some.ensures.some c.requires.older c.requires.keys
     c.in_ok-breach-in-Some.ensures c.in-None-2.is c.in_ok-whole_today-in-None-2.ensures
 
-pub returns-in_ok-whole_today-in-None-2-clause-distinct_keys : goal.returns-in_ok-whole_today-in-None-2-clause-distinct_keys
+pub returns-in_ok-whole_today-in-None-2-clause-distinct_keys :
+    goal.returns-in_ok-whole_today-in-None-2-clause-distinct_keys
 returns-in_ok-whole_today-in-None-2-clause-distinct_keys c = (kept c).keys
 
 pub returns-in_ok-whole_today-in-None-2-clause-depth : goal.returns-in_ok-whole_today-in-None-2-clause-depth
