@@ -10,3 +10,6 @@ pub mod Breaches
 pub mod Rules
 pub mod Naming
 pub mod Converting
+pub mod Kept
+pub mod KeptConstraints
+pub mod KeptRules

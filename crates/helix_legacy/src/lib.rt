@@ -9,9 +9,10 @@
 //!
 //! [`is_older`] says whether a value is an object with the member `rules`. [`today`] gives today's form of such a
 //! value, and then no rule of the older form is broken; or the first of the rules L1 to L4 that is, with the pointer of
-//! its first place in the text. Running out of memory breaks none. [`rule_number`] finds a rule by its name;
-//! [`rule_count`] tells whether there are few enough. [`Place`] and [`pointer_of`] serve any rule that names places in a
-//! JSON value.
+//! its first place in the text. Running out of memory breaks none. Today's form repeats no key, is nested no deeper than
+//! the value, and its numbers are JSON numbers where the value's are. [`rule_number`] finds a rule by its name;
+//! [`rule_count`] tells whether there are few enough. [`Place`] and [`pointer_of`] serve any rule that names places in
+//! a JSON value.
 //!
 //! No clause says what a call costs: `today` looks at each part of the value a fixed number of times, but compares each
 //! rule's name with all earlier ones; recursion is as deep as the value is nested. The questions take no memory.
@@ -38,3 +39,6 @@ pub use fault::{LegacyFault, LegacyRule};
 pub use older::{is_older, rule_count, rule_number, today};
 pub use place::{Place, Step};
 pub use pointer::pointer_of;
+
+#[cfg(test)]
+mod tests;

@@ -1,7 +1,7 @@
 //! The older form of profiles: whether a value has it, its form today, and its rules by their names.
 
 ghost use Rattle.std.specs.Prelude.{◌≡◌, ◌≢◌, ◌-◌, ◌^◌, ◌<◌, ◌≤◌, ℕ, Some, length, IfErr, IfNone, IfOk, IfSome, IsTrue, OnOk, codes, option_copied};
-ghost use Rattle.helix_json.specs.Values.{HasNoRepeatedKey};
+ghost use Rattle.helix_json.specs.Values.{HasNoRepeatedKey, HasNumbers, nesting};
 ghost use Rattle.helix_json.specs.declared.value.Json.{Str};
 ghost use Rattle.helix_legacy.specs.Broken.{IsUnbroken, is_older, name_at, rules_of};
 ghost use Rattle.helix_legacy.specs.Members.{items_of, members_of, value_of};
@@ -28,13 +28,17 @@ pub fn is_older(json: &Json) -> bool
     }
 }
 
-/// The form that a value of the older form has today, or the first rule of the older form that it breaks.
+/// The form that a value of the older form has today, or the first rule of the older form that it breaks. It is nested
+/// no deeper than the value.
 pub fn today(alloc: Global, json: &Json) -> Result<Json, LegacyFault>
     requires older { IsTrue (is_older json.now) }
     requires keys { HasNoRepeatedKey json.now }
     ensures ok { IfOk result (λ value. value ≡ today_of json.now) }
     ensures unbroken { OnOk result (IsUnbroken json.now) }
     ensures refused { IfErr result (Refuses json.now) }
+    ensures distinct_keys { IfOk result HasNoRepeatedKey }
+    ensures depth { IfOk result (λ value. nesting value ≤ nesting json.now) }
+    ensures numbers { IfOk result (λ value. HasNumbers json.now → HasNumbers value) }
 {
     match as_object(json) {
         Some(members) => match first_breach(alloc, members)? {
