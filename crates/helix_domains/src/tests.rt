@@ -2,6 +2,7 @@
 
 mod ask;
 mod build;
+mod codes;
 mod lines;
 mod marks;
 mod words;

@@ -24,6 +24,8 @@ pub enum Value<'a> {
     Tenths(i128),
     Day(i64),
     Text(&'a str),
+    /// A character so many times.
+    Times(char, u32),
 }
 
 /// Characters from a first to a last one, with the least and the greatest number of them.
@@ -35,6 +37,8 @@ pub enum Check<'a> {
     EqualTo(Value<'a>),
     InSet(&'a [Value<'a>]),
     Matching(&'a [Piece]),
+    /// One of the pieces.
+    MatchingOne(&'a [Piece]),
     Containing(&'a [Piece]),
     BeginningWith(&'a [Piece]),
     OfLength(u32),
@@ -57,12 +61,21 @@ pub fn field(alloc: Global, kind: Kind) -> Result<Field, Memory>
     })
 }
 
+fn times(alloc: Global, character: char, count: u32) -> Result<Text, Memory> {
+    let mut text = Text::new(alloc);
+    for _ in 0..count {
+        text.push(character as u32)?;
+    }
+    Ok(text)
+}
+
 pub fn cell(alloc: Global, value: Value<'_>) -> Result<Cell, Memory> {
     match value {
         Value::Flag(flag) => Ok(Cell::Bool(flag)),
         Value::Tenths(count) => Ok(Cell::Number(count.wrapping_mul(TENTH))),
         Value::Day(number) => Ok(Cell::Moment(number.wrapping_mul(DAY))),
         Value::Text(string) => Ok(Cell::Text(Text::of(alloc, string)?)),
+        Value::Times(character, count) => Ok(Cell::Text(times(alloc, character, count)?)),
     }
 }
 
@@ -92,11 +105,24 @@ fn regex(alloc: Global, pieces: &[Piece], at_start: bool) -> Result<Regex, Memor
     })
 }
 
+fn one_of(alloc: Global, pieces: &[Piece]) -> Result<Regex, Memory> {
+    let mut parts = Exprs::new(alloc);
+    for piece in pieces {
+        parts.push(characters(alloc, *piece)?)?;
+    }
+    Ok(Regex {
+        expr: Expr::Alt(parts),
+        at_start: false,
+        at_end: false,
+    })
+}
+
 fn test(alloc: Global, check: Check<'_>) -> Result<Test, Memory> {
     match check {
         Check::EqualTo(value) => Ok(Test::EqualTo(cell(alloc, value)?)),
         Check::InSet(values) => Ok(Test::InSet(cells(alloc, values)?)),
         Check::Matching(pieces) => Ok(Test::Matching(regex(alloc, pieces, false)?)),
+        Check::MatchingOne(pieces) => Ok(Test::Matching(one_of(alloc, pieces)?)),
         Check::Containing(pieces) => Ok(Test::Containing(regex(alloc, pieces, false)?)),
         Check::BeginningWith(pieces) => Ok(Test::Containing(regex(alloc, pieces, true)?)),
         Check::OfLength(count) => Ok(Test::OfLength(count)),

@@ -1,6 +1,6 @@
 //! Truth values, numbers and moments.
 
-use crate::tests::ask::values_of;
+use crate::tests::ask::{has_when_added, values_of};
 use crate::tests::build::{Check, Value};
 use helix_values::Kind;
 use std::test::Fail;
@@ -52,6 +52,7 @@ fn numbers(rt: HostRuntime) -> Result<(), Fail> {
         values_of(rt.alloc(), Kind::Decimal, &checks, wanted.as_slice())?,
         (11, true)
     );
+    assert!(rt; has_when_added(rt.alloc(), Kind::Decimal, &checks, wanted.as_slice())?);
     Ok(())
 }
 
