@@ -53,9 +53,9 @@ fn texts_of_one_of_two_patterns(rt: HostRuntime) -> Result<(), Fail> {
             false,
             &[
                 EMPTY,
+                B,
                 Value::Text("aa"),
                 Value::Text("ab"),
-                B,
                 Value::Text("ba")
             ]
         )?
