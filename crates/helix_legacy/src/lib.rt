@@ -9,8 +9,8 @@
 //!
 //! [`is_older`] says whether a value is an object with the member `rules`. [`today`] gives today's form of such a
 //! value, and then no rule of the older form is broken; or the first of the rules L1 to L4 that is, with the pointer of
-//! its first place in the text. Running out of memory breaks none. Today's form repeats no key, is nested no deeper than
-//! the value, and its numbers are JSON numbers where the value's are. [`rule_number`] finds a rule by its name;
+//! its first place in the text. Running out of memory breaks none. Today's form repeats no key, is nested no deeper
+//! than the value, and its numbers are JSON numbers where the value's are. [`rule_number`] finds a rule by its name;
 //! [`rule_count`] tells whether there are few enough. [`Place`] and [`pointer_of`] serve any rule that names places in
 //! a JSON value.
 //!

@@ -1,11 +1,13 @@
 pub mod Searching
 pub mod Truth
 pub mod Refuting
+pub mod Counting
 pub mod Exactness
 pub mod Options
 pub mod Fewness
 pub mod Valid
 pub mod Opening
+pub mod Demanding
 pub mod Stepping
 pub mod Descending
 pub mod Judging

@@ -17,10 +17,11 @@ use Rattle.helix_tree.specs.TreeOf.{signed_tree}
 use Rattle.helix_tree.specs.declared.literal.Literal.{Literal}
 use Rattle.helix_values.specs.declared.cell.Cell.{Cell}
 use Rattle.helix_values.specs.declared.cell.Cell.TheVariants as cell
-use Rattle.helix_options.proofs.Exactness.{bit, holding, Counts, search_counts}
+use Rattle.helix_options.proofs.Counting.{bit, holding, Counts}
+use Rattle.helix_options.proofs.Exactness.{search_counts}
 use Rattle.helix_options.proofs.Fewness.{first_few}
 use Rattle.helix_options.proofs.Refuting.{Fits}
-use Rattle.helix_options.proofs.Stepping.{if_ok}
+use Rattle.helix_options.proofs.Demanding.{if_ok}
 use Rattle.helix_options.proofs.Truth.{path_true, tree_true, tree-true, path-true}
 use Rattle.helix_options.proofs.Valid.{TreeValid, all_valid, tree-valid}
 use Rattle.helix_options.specs.Literals.{IsLiteralOf}

@@ -1,5 +1,4 @@
--- The literals of the paths that a search finds are those of its tree, as they are or turned, or say of an end of a
--- relation whether it is null.
+-- The literals of the paths that a search finds are those of its tree, or say whether an end of a relation is null.
 use Rattle.std.proofs.Common.{◌≡◌, ℕ, ◌==◌, ◌||◌, Bool, true, false, not, List, [], ◌∷◌, ◌++◌, refl, sym, ap, subst, ◌∙◌, Contains}
 use Rattle.std.proofs.lemmas.Bool.{eqb-true}
 use Rattle.std.specs.List.{AllByRecursion, list_any}

@@ -1,6 +1,7 @@
 use Rattle.std.proofs.Common.{true, false, refl, sym, ◌∙◌}
 use Rattle.helix_options.proofs.Searching.{search-All-plus, search-All-minus, search-Any-plus, search-Any-minus}
-use Rattle.helix_options.proofs.Stepping.{each_goes_on, one_goes_on, if_ok}
+use Rattle.helix_options.proofs.Demanding.{each_goes_on, if_ok}
+use Rattle.helix_options.proofs.Stepping.{one_goes_on}
 use Rattle.helix_options.specs.Inner.Search.{search, search_all, one_path, with_branch}
 use Rattle.helix_options.proofs.advance.advance.Goals as goal
 

@@ -1,6 +1,7 @@
 use Rattle.std.proofs.Common.{true, subst, ap, ◌∙◌, ◌∷◌, [], ◌++◌, sym}
 use Rattle.helix_options.proofs.Judging.{head_apart}
-use Rattle.helix_options.proofs.Stepping.{part_refuted, last_part, first_part, stands_at}
+use Rattle.helix_options.proofs.Demanding.{stands_at}
+use Rattle.helix_options.proofs.Stepping.{part_refuted, last_part, first_part}
 use Rattle.helix_options.specs.Inner.Search.{GoesOn, both, one_step, one_of, search_all, one_path, found_by_all, with_branch}
 use Rattle.helix_options.specs.declared.standing.Standing.TheVariants.{Refuted, Open}
 use Rattle.helix_options.proofs.advance.choose.Goals as goal

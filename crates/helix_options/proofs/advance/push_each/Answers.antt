@@ -1,5 +1,5 @@
 use Rattle.std.proofs.Common.{◌∙◌}
-use Rattle.helix_options.proofs.Stepping.{part_demanded}
+use Rattle.helix_options.proofs.Demanding.{part_demanded}
 use Rattle.helix_options.proofs.advance.push_each.Goals as goal
 
 pub loop-tree-preserved : goal.loop-tree-preserved
