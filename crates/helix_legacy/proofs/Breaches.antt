@@ -9,15 +9,15 @@ use Rattle.helix_json.specs.ValueLaws.{keys_of_members}
 use Rattle.helix_legacy.specs.declared.breach.Breach.{Breach}
 use Rattle.helix_legacy.specs.declared.fault.LegacyRule.{LegacyRule}
 use Rattle.helix_legacy.specs.declared.fault.LegacyRule.TheVariants as rule
-use Rattle.helix_legacy.specs.declared.place.Step.{Step}
-use Rattle.helix_legacy.specs.declared.place.Step.TheVariants as step
-use Rattle.helix_legacy.specs.Members.{members_of, value_of, has_key}
+use Rattle.helix_places.specs.declared.place.Step.{Step}
+use Rattle.helix_places.specs.declared.place.Step.TheVariants as step
+use Rattle.helix_places.specs.Members.{members_of, value_of, has_key}
 use Rattle.helix_legacy.specs.Broken.{Broken, is_older, HasConstraints, BreaksForm, BreaksName, BreaksATest, IsFirstBroken, IsUnbroken, rank}
-use Rattle.helix_legacy.specs.Places.{Finds, IsFirstPlace, InMember, Here}
+use Rattle.helix_places.specs.Places.{Finds, IsFirstPlace, InMember, Here}
 use Rattle.helix_legacy.specs.Inner.Parts.{IsBreach}
-use Rattle.helix_legacy.proofs.Finding.{and_some, none_in_member, first_in_member}
-use Rattle.helix_legacy.proofs.Keyed.{Leads, leads, all_at}
-use Rattle.helix_legacy.proofs.Views.{members_of_object}
+use Rattle.helix_places.specs.PlaceLaws.{and_some, none_in_member, first_in_member}
+use Rattle.helix_places.specs.KeyLaws.{Leads, leads, all_at}
+use Rattle.helix_places.specs.ViewLaws.{members_of_object}
 
 pub none_is : {A : Type 0} (o : Option A) (P : A → Type 0) → o ≡ None → ¬ (IsSomeAnd o P)
 none_is o P is h = let Q : Option _ → Type 0 = λ q. IsSomeAnd q P in subst Q is h

@@ -5,13 +5,13 @@ use Rattle.helix_json.specs.declared.value.Json as json
 use Rattle.helix_json.specs.declared.value.Json.TheViews as view
 use Rattle.helix_json.specs.declared.value.Member.{Member}
 use Rattle.helix_legacy.specs.declared.form.Form.{Form}
-use Rattle.helix_legacy.specs.Members.{members_of}
+use Rattle.helix_places.specs.Members.{members_of}
 use Rattle.helix_legacy.specs.Forms.{form_of}
 use Rattle.helix_legacy.specs.Inner.Converted.{operands, branches}
 use Rattle.helix_legacy.specs.Today.{member, constraint_today, constraints_today, items_today, operands_today, branches_today, object_today, member_today, today_of}
 use Rattle.helix_legacy.specs.Broken.{is_older}
 use Rattle.helix_base.specs.declared.memory.Memory.{Memory}
-use Rattle.helix_legacy.proofs.Views.{members_of_object}
+use Rattle.helix_places.specs.ViewLaws.{members_of_object}
 use Rattle.helix_legacy.proofs.Visiting.{if_ok}
 
 abbrev operands_of : Json → List Member

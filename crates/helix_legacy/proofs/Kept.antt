@@ -10,9 +10,9 @@ use Rattle.helix_json.specs.declared.value.Json.TheViews as view
 use Rattle.helix_json.specs.declared.value.Member.{Member}
 use Rattle.helix_json.specs.Values.{HasKey, HasNumbers, MembersHaveNumbers, ItemsHaveNumbers, HasNoRepeatedKey, MembersHaveNoRepeatedKey, ItemsHaveNoRepeatedKey, HaveDifferentKeys, nesting, members_nesting, items_nesting}
 use Rattle.helix_json.specs.ValueLaws.{keys_of_items, keys_of_members, numbers_of_items, numbers_of_members, nesting_of_items, nesting_of_members}
-use Rattle.helix_legacy.specs.Members.{listed_members, value_of}
+use Rattle.helix_places.specs.Members.{listed_members, value_of}
 use Rattle.helix_legacy.specs.Today.{member, the, or_null, keyword_test}
-use Rattle.helix_legacy.proofs.Keyed.{Leads, leads, all_at}
+use Rattle.helix_places.specs.KeyLaws.{Leads, leads, all_at}
 
 -- texts that a comparison tells apart
 pub differ : (a b : List ℕ) → bytes_eq a b ≡ false → a ≢ b

@@ -9,7 +9,7 @@ use Rattle.helix_legacy.specs.declared.form.Form.{Form}
 use Rattle.helix_legacy.specs.declared.form.Form.TheVariants as form
 use Rattle.helix_legacy.specs.declared.form.Line.{Line}
 use Rattle.helix_legacy.specs.declared.form.Line.TheVariants as line
-use Rattle.helix_legacy.specs.Members.{listed_members}
+use Rattle.helix_places.specs.Members.{listed_members}
 use Rattle.helix_legacy.specs.Forms.{form_of, line_of, line_for, line_for_some, word_of, is_value_word, is_general_word, is_text_word, is_number_word, is_moment_word}
 use Rattle.helix_legacy.specs.Today.{the, or_empty, line_today, object_today, constraint_today, constraints_today, items_today, operands_today, branches_today}
 use Rattle.helix_legacy.proofs.Kept.{differ, IsKept, AllKept, KeptMembers, KeptItems, object_kept, list_kept, first_member, other_members, first_item, other_items, Renews, renewed, members_kept, the_kept, test_kept}

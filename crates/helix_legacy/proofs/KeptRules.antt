@@ -8,17 +8,17 @@ use Rattle.helix_json.specs.declared.value.Json.TheViews as view
 use Rattle.helix_json.specs.declared.value.Member.{Member}
 use Rattle.helix_json.specs.Values.{HasNumbers, HasNoRepeatedKey, HaveDifferentKeys, nesting, members_nesting, items_nesting}
 use Rattle.helix_legacy.specs.declared.fault.LegacyRule.TheVariants as rule
-use Rattle.helix_legacy.specs.declared.place.Step.{Step}
-use Rattle.helix_legacy.specs.declared.place.Step.TheVariants as step
-use Rattle.helix_legacy.specs.Members.{listed_members, listed_items, members_of, items_of, value_of, is_list}
+use Rattle.helix_places.specs.declared.place.Step.{Step}
+use Rattle.helix_places.specs.declared.place.Step.TheVariants as step
+use Rattle.helix_places.specs.Members.{listed_members, listed_items, members_of, items_of, value_of, is_list}
 use Rattle.helix_legacy.specs.Broken.{Broken, BreaksForm, BreaksRuleForm, IsUnbroken, is_older, is_rule}
-use Rattle.helix_legacy.specs.Places.{Here}
+use Rattle.helix_places.specs.Places.{Here}
 use Rattle.helix_legacy.specs.Today.{member, the, constraints_today, rule_today, member_today, today_of}
 use Rattle.helix_legacy.specs.Inner.Parts.{IsBreach}
 use Rattle.helix_legacy.specs.declared.breach.Breach.{Breach}
 use Rattle.helix_legacy.proofs.Converting.{older_today}
-use Rattle.helix_legacy.proofs.Finding.{and_some}
-use Rattle.helix_legacy.proofs.Keyed.{same_bytes, bytes_same, other_bytes, value_at}
+use Rattle.helix_places.specs.PlaceLaws.{and_some}
+use Rattle.helix_places.specs.KeyLaws.{same_bytes, bytes_same, other_bytes, value_at}
 use Rattle.helix_legacy.proofs.Kept.{IsKept, AllKept, KeptItems, object_kept, list_kept, first_item, other_items, members_kept, the_kept}
 use Rattle.helix_legacy.proofs.KeptConstraints.{constraints_kept}
 

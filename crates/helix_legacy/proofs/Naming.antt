@@ -7,13 +7,13 @@ use Rattle.helix_base.specs.declared.memory.Memory.{Memory}
 use Rattle.helix_json.specs.declared.value.Json.{Json}
 use Rattle.helix_json.specs.declared.value.Json as json
 use Rattle.helix_json.specs.declared.value.Json.TheViews as view
-use Rattle.helix_legacy.specs.declared.place.Step.{Step}
-use Rattle.helix_legacy.specs.declared.place.Step.TheVariants as step
-use Rattle.helix_legacy.specs.Members.{items_of, is_string}
+use Rattle.helix_places.specs.declared.place.Step.{Step}
+use Rattle.helix_places.specs.declared.place.Step.TheVariants as step
+use Rattle.helix_places.specs.Members.{items_of, is_string}
 use Rattle.helix_legacy.specs.Broken.{BreaksName, IsFaultyName, is_name, name_at, name_in, name_of_some}
-use Rattle.helix_legacy.specs.Places.{Finds, Precedes}
-use Rattle.helix_legacy.proofs.Keyed.{NoneBefore}
-use Rattle.helix_legacy.proofs.Views.{items_of_list}
+use Rattle.helix_places.specs.Places.{Finds, Precedes}
+use Rattle.helix_places.specs.KeyLaws.{NoneBefore}
+use Rattle.helix_places.specs.ViewLaws.{items_of_list}
 
 -- the rule with an index
 at_is : (rules : List Json) (i : ℕ) (rule : Json) → i < length rules → rule ≡ get_or rules i rule

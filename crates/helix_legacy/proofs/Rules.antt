@@ -6,16 +6,16 @@ use Rattle.helix_json.specs.declared.value.Json.TheViews as view
 use Rattle.helix_json.specs.declared.value.Member.{Member}
 use Rattle.helix_json.specs.Values.{HasNoRepeatedKey}
 use Rattle.helix_base.specs.declared.memory.Memory.{Memory}
-use Rattle.helix_legacy.specs.declared.place.Step.{Step}
-use Rattle.helix_legacy.specs.declared.place.Step.TheVariants as step
-use Rattle.helix_legacy.specs.Members.{members_of, items_of, value_of}
+use Rattle.helix_places.specs.declared.place.Step.{Step}
+use Rattle.helix_places.specs.declared.place.Step.TheVariants as step
+use Rattle.helix_places.specs.Members.{members_of, items_of, value_of}
 use Rattle.helix_legacy.specs.Broken.{BreaksATest}
 use Rattle.helix_legacy.specs.Visited.{BreaksTests, many}
-use Rattle.helix_legacy.specs.Places.{Finds, IsFirstPlace, InItem, InMember}
+use Rattle.helix_places.specs.Places.{Finds, IsFirstPlace, InItem, InMember}
 use Rattle.helix_legacy.specs.Inner.Parts.{InConstraints}
-use Rattle.helix_legacy.proofs.Finding.{none_in_member, first_in_member}
+use Rattle.helix_places.specs.PlaceLaws.{none_in_member, first_in_member}
 use Rattle.helix_legacy.proofs.Breaches.{none_is, value_keys}
-use Rattle.helix_legacy.proofs.Views.{members_of_object}
+use Rattle.helix_places.specs.ViewLaws.{members_of_object}
 
 abbrev Says : (Json → List Step → Type 0) → Json → Option (List Step) → Type 0
 Says P v found = HasNoRepeatedKey v → Finds v (P v) found

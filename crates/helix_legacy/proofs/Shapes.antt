@@ -7,13 +7,13 @@ use Rattle.helix_json.specs.declared.value.Json.TheViews as view
 use Rattle.helix_json.specs.declared.value.Member.{Member}
 use Rattle.helix_json.specs.Values.{HasNoRepeatedKey}
 use Rattle.helix_base.specs.declared.memory.Memory.{Memory}
-use Rattle.helix_legacy.specs.declared.place.Step.{Step}
-use Rattle.helix_legacy.specs.declared.place.Step.TheVariants as step
-use Rattle.helix_legacy.specs.Members.{members_of, value_of, has_key, are_keys, is_list, some_is}
+use Rattle.helix_places.specs.declared.place.Step.{Step}
+use Rattle.helix_places.specs.declared.place.Step.TheVariants as step
+use Rattle.helix_places.specs.Members.{members_of, value_of, has_key, are_keys, is_list, some_is}
 use Rattle.helix_legacy.specs.Broken.{BreaksForm, BreaksRuleForm, is_rule}
-use Rattle.helix_legacy.specs.Places.{Finds, InItem, Here}
-use Rattle.helix_legacy.proofs.Finding.{finds_same, finds_top_at, some_and, and_some}
-use Rattle.helix_legacy.proofs.Views.{members_of_object}
+use Rattle.helix_places.specs.Places.{Finds, InItem, Here}
+use Rattle.helix_places.specs.PlaceLaws.{finds_same, finds_top_at, some_and, and_some}
+use Rattle.helix_places.specs.ViewLaws.{members_of_object}
 use Rattle.helix_legacy.proofs.Visiting.{if_ok}
 
 abbrev Says : (Json → List Step → Type 0) → Json → Option (List Step) → Type 0

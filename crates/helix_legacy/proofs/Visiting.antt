@@ -8,16 +8,15 @@ use Rattle.helix_json.specs.Values.{HasNoRepeatedKey}
 use Rattle.helix_base.specs.declared.memory.Memory.{Memory}
 use Rattle.helix_legacy.specs.declared.form.Form.{Form}
 use Rattle.helix_legacy.specs.declared.form.Form.TheVariants as form
-use Rattle.helix_legacy.specs.declared.place.Step.{Step}
-use Rattle.helix_legacy.specs.declared.place.Step.TheVariants as step
-use Rattle.helix_legacy.specs.Members.{members_of, is_list}
+use Rattle.helix_places.specs.declared.place.Step.{Step}
+use Rattle.helix_places.specs.declared.place.Step.TheVariants as step
+use Rattle.helix_places.specs.Members.{members_of, is_list}
 use Rattle.helix_legacy.specs.Forms.{form_of, are_operand_keys, is_branch_key}
-use Rattle.helix_legacy.specs.Places.{part, Finds, InItem}
+use Rattle.helix_places.specs.Places.{part, Finds, InItem, InPart}
 use Rattle.helix_legacy.specs.Tests.{test_fault}
 use Rattle.helix_legacy.specs.Visited.{Role, one, many, role_of_parts, parts_by_form, own_fault, fault_by_form, BreaksTests}
-use Rattle.helix_legacy.specs.Inner.Parts.{InPart}
-use Rattle.helix_legacy.proofs.Finding.{finds_same, finds_only, some_and, and_some}
-use Rattle.helix_legacy.proofs.Views.{members_of_object}
+use Rattle.helix_places.specs.PlaceLaws.{finds_same, finds_only, some_and, and_some}
+use Rattle.helix_places.specs.ViewLaws.{members_of_object}
 
 pub if_ok : {A E : Type 0} (r : Result A E) (P Q : A → Type 0) → ((x : A) → P x → Q x) → IfOk r P → IfOk r Q
 if_ok (Ok x) P Q f h = f x h

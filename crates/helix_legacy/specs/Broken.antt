@@ -5,10 +5,11 @@ use Rattle.helix_json.specs.declared.value.Json.{Json}
 use Rattle.helix_json.specs.declared.value.Json as json
 use Rattle.helix_legacy.specs.declared.fault.LegacyRule.{LegacyRule}
 use Rattle.helix_legacy.specs.declared.fault.LegacyRule.TheVariants as rule
-use Rattle.helix_legacy.specs.declared.place.Step.{Step}
-use Rattle.helix_legacy.specs.declared.place.Step.TheVariants as step
-use Rattle.helix_legacy.specs.Members.{items_of, members_of, value_of, has_key, are_keys, is_list}
-use Rattle.helix_legacy.specs.Places.{Here, InMember, InItem, IsFirstPlace}
+use Rattle.helix_places.specs.declared.place.Step.{Step}
+use Rattle.helix_places.specs.declared.place.Step.TheVariants as step
+use Rattle.helix_places.specs.Names.{is_name_text}
+use Rattle.helix_places.specs.Members.{items_of, members_of, value_of, has_key, are_keys, is_list}
+use Rattle.helix_places.specs.Places.{Here, InMember, InItem, IsFirstPlace}
 use Rattle.helix_legacy.specs.Visited.{many, BreaksTests}
 
 -- an object with the member `rules`
@@ -41,13 +42,6 @@ BreaksRuleForm item place = IsNoRule item place ⊎ ConstraintsAreNoList item pl
 -- L2 in `rules`
 abbrev pub BreaksForm : Json → List Step → Type 0
 BreaksForm rules place = RulesAreNoList rules place ⊎ InItem BreaksRuleForm rules place
-
--- no control character
-abbrev pub is_name_character : ℕ → Bool
-is_name_character code = nat_le 32 code && not (code == 127)
-
-abbrev pub is_name_text : List ℕ → Bool
-is_name_text text = nat_le 1 (length text) && nat_le (length text) 200 && list_all is_name_character text
 
 -- a string of 1 to 200 characters, none of them a control character
 abbrev pub is_name : Json → Bool

@@ -7,7 +7,7 @@ use Rattle.helix_legacy.specs.declared.form.Form.{Form}
 use Rattle.helix_legacy.specs.declared.form.Form.TheVariants as form
 use Rattle.helix_legacy.specs.declared.form.Line.{Line}
 use Rattle.helix_legacy.specs.declared.form.Line.TheVariants as line
-use Rattle.helix_legacy.specs.Members.{value_of, has_key, are_keys}
+use Rattle.helix_places.specs.Members.{value_of, has_key, are_keys}
 
 -- `not`; `if` and `then`; or `if`, `then` and `else`: each value is a constraint
 unfoldable pub are_operand_keys : List Member → Bool

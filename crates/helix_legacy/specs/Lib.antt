@@ -1,7 +1,4 @@
 -- What the public clauses rest on.
-pub mod Members
-pub mod Places
-pub mod Pointers
 pub mod Forms
 pub mod Tests
 pub mod Visited

@@ -3,9 +3,9 @@ use Rattle.std.specs.Prelude.{if◌then◌else◌, List, [], ◌∷◌, Option, 
 use Rattle.helix_json.specs.declared.value.Member.{Member}
 use Rattle.helix_legacy.specs.declared.form.Line.{Line}
 use Rattle.helix_legacy.specs.declared.form.Line.TheVariants as line
-use Rattle.helix_legacy.specs.declared.place.Step.{Step}
-use Rattle.helix_legacy.specs.declared.place.Step.TheVariants as step
-use Rattle.helix_legacy.specs.Members.{value_of, is_list, is_string, some_is}
+use Rattle.helix_places.specs.declared.place.Step.{Step}
+use Rattle.helix_places.specs.declared.place.Step.TheVariants as step
+use Rattle.helix_places.specs.Members.{value_of, is_list, is_string, some_is}
 use Rattle.helix_legacy.specs.Forms.{line_of, has_table_word}
 
 -- third: its `values` is no list, or its `file` is no string, and the place is that member

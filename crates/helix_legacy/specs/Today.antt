@@ -8,7 +8,7 @@ use Rattle.helix_legacy.specs.declared.form.Form.{Form}
 use Rattle.helix_legacy.specs.declared.form.Form.TheVariants as form
 use Rattle.helix_legacy.specs.declared.form.Line.{Line}
 use Rattle.helix_legacy.specs.declared.form.Line.TheVariants as line
-use Rattle.helix_legacy.specs.Members.{members_of, items_of, listed_members, value_of}
+use Rattle.helix_places.specs.Members.{members_of, items_of, listed_members, value_of}
 use Rattle.helix_legacy.specs.Forms.{form_of, line_of, word_of}
 use Rattle.helix_legacy.specs.Broken.{is_older}
 

@@ -4,10 +4,10 @@ use Rattle.helix_json.specs.declared.value.Json.{Json}
 use Rattle.helix_json.specs.declared.value.Member.{Member}
 use Rattle.helix_legacy.specs.declared.form.Form.{Form}
 use Rattle.helix_legacy.specs.declared.form.Form.TheVariants as form
-use Rattle.helix_legacy.specs.declared.place.Step.{Step}
-use Rattle.helix_legacy.specs.Members.{members_of, is_list}
+use Rattle.helix_places.specs.declared.place.Step.{Step}
+use Rattle.helix_places.specs.Members.{members_of, is_list}
 use Rattle.helix_legacy.specs.Forms.{form_of}
-use Rattle.helix_legacy.specs.Places.{part}
+use Rattle.helix_places.specs.Places.{part}
 use Rattle.helix_legacy.specs.Tests.{test_fault}
 
 -- what is visited: one constraint, or a value that is to be a list of constraints

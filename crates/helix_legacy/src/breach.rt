@@ -4,18 +4,17 @@ ghost use Rattle.std.specs.Prelude.{◌≡◌, ◌∷◌, Some, false, IfOk, IsT
 ghost use Rattle.helix_json.specs.Values.{HasNoRepeatedKey};
 ghost use Rattle.helix_json.specs.declared.value.Json.TheViews as view;
 ghost use Rattle.helix_legacy.specs.Broken.{BreaksATest, is_older};
-ghost use Rattle.helix_legacy.specs.Members.{has_key, value_of};
+ghost use Rattle.helix_places.specs.Members.{has_key, value_of};
 ghost use Rattle.helix_legacy.specs.Inner.Parts.{InConstraints, IsBreach};
-ghost use Rattle.helix_legacy.specs.Places.{Finds, InItem};
+ghost use Rattle.helix_places.specs.Places.{Finds, InItem};
 
 use crate::fault::LegacyRule;
-use crate::keys::{as_list, as_object, has_key, value_of, word_text};
 use crate::names::name_fault;
-use crate::place::{Place, Step, place_of};
 use crate::shape::form_fault;
 use crate::visit::in_constraints;
 use helix_base::Memory;
 use helix_json::{Json, Member};
+use helix_places::{Place, Step, as_list, as_object, has_key, place_of, value_of, word_text};
 use std::alloc::Global;
 
 /// A broken rule with a place.

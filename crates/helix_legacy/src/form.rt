@@ -3,8 +3,8 @@
 ghost use Rattle.std.specs.Prelude.{◌≡◌, option_map};
 ghost use Rattle.helix_legacy.specs.Forms.{form_of, are_operand_keys, is_branch_key, line_of, line_for, null_line, set_line, value_line, word_of, has_table_word, is_table_word, is_value_word, is_general_word, is_text_word, is_number_word, is_moment_word};
 
-use crate::keys::{are_three_keys, are_two_keys, has_key, is_key, is_word, value_of};
 use helix_json::{Json, Member};
+use helix_places::{are_three_keys, are_two_keys, has_key, is_key, is_word, value_of};
 
 /// How an object that stands for a constraint is written.
 #[derive(Clone, Copy, Debug, PartialEq, Eq)]

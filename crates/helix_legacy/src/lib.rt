@@ -11,25 +11,21 @@
 //! value, and then no rule of the older form is broken; or the first of the rules L1 to L4 that is, with the pointer of
 //! its first place in the text. Running out of memory breaks none. Today's form repeats no key, is nested no deeper
 //! than the value, and its numbers are JSON numbers where the value's are. [`rule_number`] finds a rule by its name;
-//! [`rule_count`] tells whether there are few enough. [`Place`] and [`pointer_of`] serve any rule that names places in
-//! a JSON value.
+//! [`rule_count`] tells whether there are few enough.
 //!
 //! No clause says what a call costs: `today` looks at each part of the value a fixed number of times, but compares each
 //! rule's name with all earlier ones; recursion is as deep as the value is nested. The questions take no memory.
 //!
-//! Places and their order in the text are in `specs/Places.antt`, pointers in `specs/Pointers.antt`, the rules in
-//! `specs/Broken.antt`, `specs/Tests.antt` and `specs/Visited.antt`, and today's form in `specs/Today.antt`.
+//! The rules are in `specs/Broken.antt`, `specs/Tests.antt` and `specs/Visited.antt`, today's form in
+//! `specs/Today.antt`; places, their order in the text and their pointers in helix_places.
 #![tactic(auto)]
 
 mod breach;
 mod convert;
 mod fault;
 mod form;
-mod keys;
 mod names;
 mod older;
-mod place;
-mod pointer;
 mod shape;
 mod table;
 mod visit;
@@ -37,8 +33,6 @@ mod whole;
 
 pub use fault::{LegacyFault, LegacyRule};
 pub use older::{is_older, rule_count, rule_number, today};
-pub use place::{Place, Step};
-pub use pointer::pointer_of;
 
 #[cfg(test)]
 mod tests;

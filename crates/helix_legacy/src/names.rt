@@ -2,16 +2,13 @@
 
 ghost use Rattle.std.specs.Prelude.{◌≡◌, ◌<◌, ◌↔◌, ℕ, length, Some, IfOk, IfSome, IsSomeAnd, IsTrue, is_some, option_copied};
 ghost use Rattle.helix_json.specs.declared.value.Json.TheViews as view;
-ghost use Rattle.std.specs.List.{list_all};
 ghost use Rattle.helix_json.specs.declared.value.Json.{Str};
-ghost use Rattle.helix_legacy.specs.Broken.{BreaksName, IsFaultyName, is_name_character, is_name_text, name_at, name_in};
-ghost use Rattle.helix_legacy.specs.Members.{is_string};
-ghost use Rattle.helix_legacy.specs.Places.{Finds};
+ghost use Rattle.helix_legacy.specs.Broken.{BreaksName, IsFaultyName, name_at, name_in};
+ghost use Rattle.helix_places.specs.Places.{Finds};
 
-use crate::keys::{as_list, as_object, value_of};
-use crate::place::{Place, Step, place_of};
 use helix_base::{Memory, Text};
 use helix_json::Json;
+use helix_places::{Place, Step, as_list, as_object, as_text, is_name_text, place_of, value_of};
 use std::alloc::Global;
 
 /// The name of a rule: its member `rule`.
@@ -60,24 +57,9 @@ fn has_faulty_name(earlier: &[Json], rule: &Json) -> bool
 fn is_faulty_name(earlier: &[Json], name: &Json) -> bool
     ensures { IsTrue result ↔ IsFaultyName earlier.now name.now }
 {
-    match text_of(name) {
+    match as_text(name) {
         Some(text) => !is_name_text(text.codes()) || has_name(earlier, text.codes()),
         None => true,
-    }
-}
-
-/// The text of a string, and None of any other value.
-fn text_of(json: &Json) -> Option<&Text>
-    ensures some { IfSome result (λ text. json.now ≡ Str text.now) }
-    ensures none { is_some result ≡ is_string json.now }
-{
-    match json {
-        Json::Null => None,
-        Json::Bool(_) => None,
-        Json::Number(_) => None,
-        Json::Str(text) => Some(text),
-        Json::List(_) => None,
-        Json::Object(_) => None,
     }
 }
 
@@ -106,32 +88,8 @@ pub fn is_named(rule: &Json, name: &[u32]) -> bool
 fn is_text(json: &Json, text: &[u32]) -> bool
     ensures { IsTrue result ↔ (json.now ≡ Str text.now) }
 {
-    match text_of(json) {
+    match as_text(json) {
         Some(own) => own.codes() == text,
         None => false,
     }
-}
-
-fn is_name_text(text: &[u32]) -> bool
-    ensures { result ≡ is_name_text text.now }
-{
-    1 <= text.len() && text.len() <= 200 && are_name_characters(text)
-}
-
-#[tactic(auto, using(crate::proofs::Words::all_step))]
-fn are_name_characters(text: &[u32]) -> bool
-    ensures { result ≡ list_all is_name_character text.now }
-{
-    for code in text {
-        if !is_name_character(*code) {
-            return false;
-        }
-    }
-    true
-}
-
-fn is_name_character(code: u32) -> bool
-    ensures { result ≡ is_name_character code }
-{
-    32 <= code && code != 127
 }

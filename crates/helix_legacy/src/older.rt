@@ -4,18 +4,17 @@ ghost use Rattle.std.specs.Prelude.{◌≡◌, ◌≢◌, ◌-◌, ◌^◌, ◌<
 ghost use Rattle.helix_json.specs.Values.{HasNoRepeatedKey, HasNumbers, nesting};
 ghost use Rattle.helix_json.specs.declared.value.Json.{Str};
 ghost use Rattle.helix_legacy.specs.Broken.{IsUnbroken, is_older, name_at, rules_of};
-ghost use Rattle.helix_legacy.specs.Members.{items_of, members_of, value_of};
+ghost use Rattle.helix_places.specs.Members.{items_of, members_of, value_of};
 ghost use Rattle.helix_legacy.specs.Refusal.{Refuses};
 ghost use Rattle.helix_legacy.specs.Today.{today_of};
 
 use crate::breach::first_breach;
 use crate::fault::LegacyFault;
-use crate::keys::{as_list, as_object, has_key, value_of};
 use crate::names::is_named;
-use crate::pointer::pointer_of;
 use crate::whole::whole_today;
 use helix_base::Text;
 use helix_json::Json;
+use helix_places::{as_list, as_object, has_key, pointer_of, value_of};
 use std::alloc::Global;
 
 /// Whether a value has the older form: it is an object with the member `rules`.

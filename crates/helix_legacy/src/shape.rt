@@ -4,12 +4,11 @@ ghost use Rattle.std.specs.Prelude.{◌≡◌, IfOk};
 ghost use Rattle.helix_json.specs.Values.{HasNoRepeatedKey};
 ghost use Rattle.helix_json.specs.declared.value.Json.TheViews as view;
 ghost use Rattle.helix_legacy.specs.Broken.{BreaksForm, BreaksRuleForm};
-ghost use Rattle.helix_legacy.specs.Places.{Finds, InItem};
+ghost use Rattle.helix_places.specs.Places.{Finds, InItem};
 
-use crate::keys::{are_two_keys, as_list, as_object, has_list};
-use crate::place::{Place, Step, place_of};
 use helix_base::Memory;
 use helix_json::{Json, Member};
+use helix_places::{Place, Step, are_two_keys, as_list, as_object, has_list, place_of};
 use std::alloc::Global;
 
 /// The first place in `rules` whose form is broken.

@@ -6,9 +6,9 @@ ghost use Rattle.helix_legacy.specs.Forms.{line_of, word_of};
 ghost use Rattle.helix_legacy.specs.Today.{keyword_test, line_today, or_empty, or_null, the};
 
 use crate::form::{Line, line_of};
-use crate::keys::{value_of, word_text};
 use helix_base::{Memory, Text};
 use helix_json::{Json, Member, Members};
+use helix_places::{value_of, word_text};
 use std::alloc::Global;
 
 /// Today's form of a test, by its line of the table.

@@ -1,5 +1,5 @@
 use crate::{
-    LegacyFault, LegacyRule, Place, Step, is_older, pointer_of, rule_count, rule_number, today,
+    LegacyFault, LegacyRule, is_older, rule_count, rule_number, today,
 };
 use helix_base::Text;
 use helix_json::{Json, Member, read};
@@ -207,20 +207,6 @@ fn rules_are_numbered_by_their_names(rt: HostRuntime) -> Result<(), Fail> {
     ];
     for (name, want) in cases {
         assert_eq!(rt; number_of(rt.alloc(), text, name)?, want, "{name}");
-    }
-    Ok(())
-}
-
-#[test]
-fn pointers_escape_keys(rt: HostRuntime) -> Result<(), Fail> {
-    let cases = [("a/b~c", "#/7/a~1b~0c"), ("\n", "#/7/?"), ("", "#/7/")];
-    for (key, want) in cases {
-        let mut place = Place::top(rt.alloc());
-        place.step_out(Step::Member(Text::of(rt.alloc(), key)?))?;
-        place.step_out(Step::Item(7))?;
-        let text = pointer_of(rt.alloc(), &place)?;
-        let wanted = Text::of(rt.alloc(), want)?;
-        assert!(rt; text.codes() == wanted.codes(), "{want}");
     }
     Ok(())
 }

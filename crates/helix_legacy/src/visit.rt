@@ -3,16 +3,14 @@
 ghost use Rattle.std.specs.Prelude.{◌≡◌, IfOk};
 ghost use Rattle.helix_json.specs.Values.{HasNoRepeatedKey};
 ghost use Rattle.helix_json.specs.declared.value.Json.TheViews as view;
-ghost use Rattle.helix_legacy.specs.Inner.Parts.{InPart};
-ghost use Rattle.helix_legacy.specs.Places.{Finds, InItem};
+ghost use Rattle.helix_places.specs.Places.{Finds, InItem, InPart};
 ghost use Rattle.helix_legacy.specs.Tests.{operand_fault, test_fault};
 ghost use Rattle.helix_legacy.specs.Visited.{BreaksTests, one, many};
 
 use crate::form::{Form, Line, form_of, has_table_word, line_of};
-use crate::keys::{as_list, as_object, value_of};
-use crate::place::{Place, Step, place_of};
 use helix_base::Memory;
 use helix_json::{Json, Member};
+use helix_places::{Place, Step, as_list, as_object, place_of, value_of};
 use std::alloc::Global;
 
 /// The place of the first fault in a visited constraint.

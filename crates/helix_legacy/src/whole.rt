@@ -2,13 +2,13 @@
 
 ghost use Rattle.std.specs.Prelude.{◌≡◌, IfOk, codes, map, option_copied};
 ghost use Rattle.helix_json.specs.declared.value.Json.TheViews as view;
-ghost use Rattle.helix_legacy.specs.Members.{items_of, members_of, value_of};
+ghost use Rattle.helix_places.specs.Members.{items_of, members_of, value_of};
 ghost use Rattle.helix_legacy.specs.Today.{member_today, rule_today};
 
 use crate::convert::constraints_today;
-use crate::keys::{as_list, as_object, is_word, value_of, word_text};
 use helix_base::Memory;
 use helix_json::{Items, Json, Member, Members};
+use helix_places::{as_list, as_object, is_word, value_of, word_text};
 use std::alloc::Global;
 
 /// The value with these members, in today's form.

@@ -1,16 +1,11 @@
--- Properties of the parts of a value, and the first breach of a rule.
-use Rattle.std.specs.Prelude.{List, [], ◌∷◌, Option, Some, None, IsSomeAnd, codes}
+-- The first breach of a rule.
+use Rattle.std.specs.Prelude.{List, Option, Some, None, codes}
 use Rattle.helix_json.specs.declared.value.Json.{Json}
 use Rattle.helix_legacy.specs.declared.breach.Breach.{Breach}
-use Rattle.helix_legacy.specs.declared.place.Step.{Step}
+use Rattle.helix_places.specs.declared.place.Step.{Step}
 use Rattle.helix_legacy.specs.Broken.{IsUnbroken, IsFirstBroken}
-use Rattle.helix_legacy.specs.Places.{part, InMember}
+use Rattle.helix_places.specs.Places.{InMember}
 use Rattle.helix_legacy.specs.Visited.{BreaksTests, many}
-
--- the place is in a part, and there as `P` says
-abbrev pub InPart : (Json → List Step → Type 0) → Json → List Step → Type 0
-InPart P v [] = ⊥
-InPart P v (step ∷ place) = IsSomeAnd (part v step) (λ w. P w place)
 
 -- L4 in a rule
 abbrev pub InConstraints : Json → List Step → Type 0

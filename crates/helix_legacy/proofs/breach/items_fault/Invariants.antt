@@ -1,5 +1,5 @@
 use Rattle.helix_legacy.specs.Inner.Parts.{InConstraints}
-use Rattle.helix_legacy.proofs.Parted.{NoneInItems}
+use Rattle.helix_places.specs.PartLaws.{NoneInItems}
 use Rattle.helix_legacy.proofs.breach.items_fault.Given as goal
 
 abbrev pub invariant-loop-i : goal.invariant-loop-i

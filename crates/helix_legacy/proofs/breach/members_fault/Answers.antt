@@ -1,5 +1,5 @@
 use Rattle.std.proofs.Common.{◌∷◌, ◌∙◌, sym, ap}
-use Rattle.helix_legacy.specs.declared.place.Step.TheVariants as step
+use Rattle.helix_places.specs.declared.place.Step.TheVariants as step
 use Rattle.helix_legacy.proofs.Rules.{without, nothing, something}
 use Rattle.helix_legacy.proofs.breach.members_fault.Goals as goal
 

@@ -1,5 +1,5 @@
 use Rattle.std.proofs.Common.{refl}
-use Rattle.helix_legacy.proofs.Keyed.{none_more}
+use Rattle.helix_places.specs.KeyLaws.{none_more}
 use Rattle.helix_legacy.proofs.Naming.{has_it, has_none, named_not}
 use Rattle.helix_legacy.proofs.names.has_name.Goals as goal
 

@@ -1,5 +1,5 @@
 use Rattle.std.proofs.Common.{◌∙◌, ◌∷◌, ap, take, refl}
-use Rattle.helix_legacy.specs.declared.place.Step.TheVariants as step
+use Rattle.helix_places.specs.declared.place.Step.TheVariants as step
 use Rattle.helix_legacy.proofs.Naming.{found_name, next_name, no_name}
 use Rattle.helix_legacy.proofs.names.names_fault.Goals as goal
 

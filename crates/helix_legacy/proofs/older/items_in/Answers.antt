@@ -1,4 +1,4 @@
-use Rattle.helix_legacy.proofs.Views.{items_in}
+use Rattle.helix_places.specs.ViewLaws.{items_in}
 use Rattle.helix_legacy.proofs.older.items_in.Goals as goal
 
 pub returns-in-Some : goal.returns-in-Some

@@ -1,5 +1,5 @@
 use Rattle.helix_legacy.specs.Broken.{BreaksRuleForm}
-use Rattle.helix_legacy.proofs.Parted.{next_item, found_item, no_more_items}
+use Rattle.helix_places.specs.PartLaws.{next_item, found_item, no_more_items}
 use Rattle.helix_legacy.proofs.shape.items_fault.Goals as goal
 
 pub returns-in-Some : goal.returns-in-Some

@@ -1,6 +1,6 @@
 use Rattle.std.proofs.Common.{sym, ◌∙◌}
 use Rattle.helix_legacy.specs.Visited.{BreaksTests, one, many}
-use Rattle.helix_legacy.proofs.Parted.{next_member, found_member, no_more_members, next_item, found_item, no_more_items}
+use Rattle.helix_places.specs.PartLaws.{next_member, found_member, no_more_members, next_item, found_item, no_more_items}
 use Rattle.helix_legacy.proofs.Visiting.{test_says, operands_say, branches_say, other_finds, no_object_finds, object_says, list_says, no_list_finds}
 use Rattle.helix_legacy.proofs.visit.+visit.Goals as goal
 

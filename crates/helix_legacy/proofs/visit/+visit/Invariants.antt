@@ -1,5 +1,5 @@
 use Rattle.helix_legacy.specs.Visited.{BreaksTests, one, many}
-use Rattle.helix_legacy.proofs.Parted.{NoneInItems, NoneInMembers}
+use Rattle.helix_places.specs.PartLaws.{NoneInItems, NoneInMembers}
 use Rattle.helix_legacy.proofs.visit.+visit.Given as goal
 
 abbrev pub invariant-in_operands-loop-member : goal.invariant-in_operands-loop-member

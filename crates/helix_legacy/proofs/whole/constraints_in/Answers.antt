@@ -1,5 +1,5 @@
 use Rattle.std.proofs.Common.{◌∙◌, codes}
-use Rattle.helix_legacy.proofs.Views.{value_in}
+use Rattle.helix_places.specs.ViewLaws.{value_in}
 use Rattle.helix_legacy.proofs.whole.constraints_in.Goals as goal
 
 pub returns-in-Some : goal.returns-in-Some

@@ -1,7 +1,7 @@
 use Rattle.std.proofs.Common.{◌∙◌, ap, map}
 use Rattle.helix_json.specs.declared.value.Json.TheViews as view
 use Rattle.helix_legacy.specs.Today.{rule_today}
-use Rattle.helix_legacy.proofs.Views.{items_in}
+use Rattle.helix_places.specs.ViewLaws.{items_in}
 use Rattle.helix_legacy.proofs.Visiting.{if_ok}
 use Rattle.helix_legacy.proofs.whole.rules_today.Goals as goal
 

@@ -1,7 +1,7 @@
 -- The pointer of a place: RFC 6901, section 3, behind a `#`. A character below U+0020 in a key is shown as `?`.
 use Rattle.std.specs.Prelude.{ℕ, ◌==◌, nat_lt, if◌then◌else◌, List, [], ◌∷◌, codes, decimal, flat_map}
-use Rattle.helix_legacy.specs.declared.place.Step.{Step}
-use Rattle.helix_legacy.specs.declared.place.Step.TheVariants as step
+use Rattle.helix_places.specs.declared.place.Step.{Step}
+use Rattle.helix_places.specs.declared.place.Step.TheVariants as step
 
 -- a character of a key: '~' is 126, '/' is 47 and '?' is 63
 abbrev pub escaped : ℕ → List ℕ

@@ -3,7 +3,7 @@
 ghost use Rattle.std.specs.Prelude.{◌≡◌, ◌++◌, IfOk, OnOk, IsTrue, decimal, flat_map};
 ghost use Rattle.std.specs.Char.{IsScalar};
 ghost use Rattle.std.specs.Str.{all_scalars};
-ghost use Rattle.helix_legacy.specs.Pointers.{escaped, step_text, pointer_of};
+ghost use Rattle.helix_places.specs.Pointers.{escaped, step_text, pointer_of};
 
 use crate::keys::push_bytes;
 use crate::place::{Place, Step};

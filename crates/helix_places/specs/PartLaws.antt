@@ -8,14 +8,13 @@ use Rattle.helix_json.specs.declared.value.Json.TheViews as view
 use Rattle.helix_json.specs.declared.value.Member.{Member}
 use Rattle.helix_json.specs.Values.{HaveDifferentKeys, HasNoRepeatedKey}
 use Rattle.helix_json.specs.ValueLaws.{keys_of_items, keys_of_members}
-use Rattle.helix_legacy.specs.declared.place.Step.{Step}
-use Rattle.helix_legacy.specs.declared.place.Step.TheVariants as step
-use Rattle.helix_legacy.specs.Members.{members_of, items_of, value_of}
-use Rattle.helix_legacy.specs.Places.{part, index_of, index_of_part, IsFirstPlace, Finds, InItem}
-use Rattle.helix_legacy.specs.Inner.Parts.{InPart}
-use Rattle.helix_legacy.proofs.Finding.{and_some, first_in_part}
-use Rattle.helix_legacy.proofs.Keyed.{Leads, leads, value_at, index_at, all_at, NoneBefore, none_at_all, none_more}
-use Rattle.helix_legacy.proofs.Views.{members_of_object, items_of_list}
+use Rattle.helix_places.specs.declared.place.Step.{Step}
+use Rattle.helix_places.specs.declared.place.Step.TheVariants as step
+use Rattle.helix_places.specs.Members.{members_of, items_of, value_of}
+use Rattle.helix_places.specs.Places.{part, index_of, index_of_part, IsFirstPlace, Finds, InItem, InPart}
+use Rattle.helix_places.specs.PlaceLaws.{and_some, first_in_part}
+use Rattle.helix_places.specs.KeyLaws.{Leads, leads, value_at, index_at, all_at, NoneBefore, none_at_all, none_more}
+use Rattle.helix_places.specs.ViewLaws.{members_of_object, items_of_list}
 
 -- a place is named in a value
 abbrev pub Named : (Json → List Step → Type 0) → Json → Type 0

@@ -3,7 +3,7 @@ use Rattle.std.proofs.Common.{◌≡◌, ℕ, true, List, [], ◌∷◌, refl, s
 use Rattle.helix_json.specs.declared.value.Json.{Json}
 use Rattle.helix_json.specs.declared.value.Json.TheViews as view
 use Rattle.helix_json.specs.declared.value.Member.{Member}
-use Rattle.helix_legacy.specs.Members.{members_of, items_of, value_of, is_list}
+use Rattle.helix_places.specs.Members.{members_of, items_of, value_of, is_list}
 
 pub members_of_object : (members : List Member) → members_of (view.Object members) ≡ members
 unfolding Rattle.helix_json.specs.declared.value.Json.TheBlock.hidden-the_row-Member-1 denote.Hole.Carrier.hidden

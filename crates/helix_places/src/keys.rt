@@ -1,8 +1,9 @@
 //! The members of an object by their keys.
 
 ghost use Rattle.std.specs.Prelude.{◌≡◌, [], ◌∷◌, ◌++◌, false, IfNone, IfOk, IfSome, OnOk, bytes_eq, is_some, option_copied};
+ghost use Rattle.helix_json.specs.declared.value.Json.{Str};
 ghost use Rattle.helix_json.specs.declared.value.Json.TheViews as view;
-ghost use Rattle.helix_legacy.specs.Members.{are_keys, has_key, is_list, items_of, members_of, some_is, value_of};
+ghost use Rattle.helix_places.specs.Members.{are_keys, has_key, is_list, is_string, items_of, members_of, some_is, value_of};
 
 use helix_base::{Memory, Text};
 use helix_json::{Json, Member};
@@ -127,4 +128,19 @@ pub fn are_three_keys(members: &[Member], first: &str, second: &str, third: &str
         && has_key(members, first)
         && has_key(members, second)
         && has_key(members, third)
+}
+
+/// The text of a string, and None of any other value.
+pub fn as_text(json: &Json) -> Option<&Text>
+    ensures some { IfSome result (λ text. json.now ≡ Str text.now) }
+    ensures none { is_some result ≡ is_string json.now }
+{
+    match json {
+        Json::Null => None,
+        Json::Bool(_) => None,
+        Json::Number(_) => None,
+        Json::Str(text) => Some(text),
+        Json::List(_) => None,
+        Json::Object(_) => None,
+    }
 }

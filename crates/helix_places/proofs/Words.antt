@@ -3,7 +3,7 @@ use Rattle.std.proofs.Common.{◌≡◌, ◌≢◌, ℕ, zero, suc, ◌+◌, ◌
 use Rattle.std.specs.List.{list_all}
 use Rattle.std.specs.Str.{bytes_eq}
 use Rattle.helix_json.specs.declared.value.Member.{Member}
-use Rattle.helix_legacy.specs.Members.{value_of}
+use Rattle.helix_places.specs.Members.{value_of}
 
 eq_suc : (xs ys : List ℕ) (i : ℕ) → i < length xs → length xs ≡ length ys
     → bytes_eq (drop i xs) (drop i ys)

@@ -2,10 +2,10 @@
 use Rattle.std.proofs.Common.{◌≡◌, ℕ, ◌<◌, ◌⊎◌, inl, inr, ⊎_elim, ◌↔◌, List, [], ◌∷◌, Option, Some, None, refl, sym, ◌∙◌, ap, subst}
 use Rattle.std.specs.Option.{IsSomeAnd}
 use Rattle.helix_json.specs.declared.value.Json.{Json}
-use Rattle.helix_legacy.specs.declared.place.Step.{Step}
-use Rattle.helix_legacy.specs.declared.place.Step.TheVariants as step
-use Rattle.helix_legacy.specs.Members.{members_of, value_of}
-use Rattle.helix_legacy.specs.Places.{part, index_of_part, Precedes, IsFirstPlace, Finds, InMember}
+use Rattle.helix_places.specs.declared.place.Step.{Step}
+use Rattle.helix_places.specs.declared.place.Step.TheVariants as step
+use Rattle.helix_places.specs.Members.{members_of, value_of}
+use Rattle.helix_places.specs.Places.{part, index_of_part, Precedes, IsFirstPlace, Finds, InMember}
 
 -- a property with the same places
 pub finds_same : (v : Json) (P Q : List Step → Type 0) (found : Option (List Step))

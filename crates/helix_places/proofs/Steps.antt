@@ -3,8 +3,8 @@ use Rattle.std.proofs.Common.{◌≡◌, ℕ, suc, ◌+◌, ◌-◌, ◌<◌, Li
 use Rattle.std.proofs.Math.Seq.{drop-cons}
 use Rattle.std.proofs.lemmas.Grind.{flat_map-append}
 use Rattle.std.proofs.lemmas.List.{reverse-append, append-nil}
-use Rattle.helix_legacy.specs.declared.place.Step.{Step}
-use Rattle.helix_legacy.specs.Pointers.{step_text}
+use Rattle.helix_places.specs.declared.place.Step.{Step}
+use Rattle.helix_places.specs.Pointers.{step_text}
 
 outer_at : (steps : List Step) (k : ℕ) (default : Step) → k < length steps
     → flat_map step_text (reverse (drop k steps))

@@ -8,8 +8,8 @@ use Rattle.std.proofs.lemmas.Option.{slice_get_read, slice_get_within}
 use Rattle.helix_json.specs.declared.value.Json.{Json}
 use Rattle.helix_json.specs.declared.value.Member.{Member}
 use Rattle.helix_json.specs.Values.{HaveDifferentKeys}
-use Rattle.helix_legacy.specs.Members.{value_of}
-use Rattle.helix_legacy.specs.Places.{index_of}
+use Rattle.helix_places.specs.Members.{value_of}
+use Rattle.helix_places.specs.Places.{index_of}
 
 -- what the comparison of two texts tells
 pub same_bytes : (a b : List ℕ) → bytes_eq a b ≡ true → a ≡ b

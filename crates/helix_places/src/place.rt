@@ -25,7 +25,7 @@ pub struct Place {
 
 impl Model for Place {
     ghost use Rattle.std.specs.Prelude.{List, reverse};
-    ghost use Rattle.helix_legacy.specs.declared.place.Step.{Step};
+    ghost use Rattle.helix_places.specs.declared.place.Step.{Step};
 
     ghost Value = { List Step };
 

@@ -1,5 +1,5 @@
 use Rattle.std.proofs.Common.{◌≡◌, ◌++◌, take}
-use Rattle.helix_legacy.proofs.keys.push_bytes.Given as goal
+use Rattle.helix_places.proofs.keys.push_bytes.Given as goal
 
 abbrev pub invariant-loop-byte : goal.invariant-loop-byte
 invariant-loop-byte l = l.text ≡ l.initial.text ++ take l.byte-index l.bytes

@@ -2,9 +2,9 @@
 use Rattle.std.specs.Prelude.{◌≡◌, ℕ, ◌+◌, ◌<◌, ◌⊎◌, if◌then◌else◌, List, [], ◌∷◌, Option, Some, None, IsSomeAnd, slice_get, bytes_eq}
 use Rattle.helix_json.specs.declared.value.Json.{Json}
 use Rattle.helix_json.specs.declared.value.Member.{Member}
-use Rattle.helix_legacy.specs.declared.place.Step.{Step}
-use Rattle.helix_legacy.specs.declared.place.Step.TheVariants as step
-use Rattle.helix_legacy.specs.Members.{items_of, members_of, value_of}
+use Rattle.helix_places.specs.declared.place.Step.{Step}
+use Rattle.helix_places.specs.declared.place.Step.TheVariants as step
+use Rattle.helix_places.specs.Members.{items_of, members_of, value_of}
 
 -- the part of a value to which a step leads, where there is one
 abbrev pub part : Json → Step → Option Json
@@ -54,3 +54,8 @@ abbrev pub InItem : (Json → List Step → Type 0) → Json → List Step → T
 InItem P v [] = ⊥
 InItem P v (step.Item index ∷ place) = IsSomeAnd (slice_get (items_of v) index) (λ w. P w place)
 InItem P v (step.Member key ∷ place) = ⊥
+
+-- the place is in a part, and there as `P` says
+abbrev pub InPart : (Json → List Step → Type 0) → Json → List Step → Type 0
+InPart P v [] = ⊥
+InPart P v (step ∷ place) = IsSomeAnd (part v step) (λ w. P w place)
