@@ -1,0 +1,1 @@
+-- What the public clauses rest on.

@@ -1,0 +1,6 @@
+//! The keywords of constraints, and the form of a constraint by its keys.
+#![tactic(auto)]
+
+mod keyword;
+
+pub use keyword::{FieldKeyword, Keyword};
