@@ -1,19 +1,12 @@
 -- How many of the paths that a search finds hold, where a standing chooses or a weak relation splits them.
-use Rattle.std.proofs.Common.{◌≡◌, ◌↔◌, ℕ, ◌+◌, Bool, true, false, not, ◌&&◌, ◌||◌, MatchBool, List, [], ◌∷◌, ◌++◌, refl, sym, ap, ◌∙◌, zero-add, add-zero, add_assoc}
+use Rattle.std.proofs.Common.{◌≡◌, ◌↔◌, ℕ, ◌+◌, Bool, true, false, not, ◌&&◌, ◌||◌, MatchBool, List, [], ◌∷◌, ◌++◌, refl, sym, ap, ◌∙◌, zero-add, add_assoc}
 use Rattle.std.proofs.lemmas.Bool.{false≢true}
-use Rattle.helix_profile.specs.Holds as value
-use Rattle.helix_profile.specs.Satisfaction.{cell_at, is_null, Signed}
-use Rattle.helix_profile.specs.declared.relation.Relation.{Relation}
-use Rattle.helix_tree.specs.TreeLaws.{dec_literal}
 use Rattle.helix_tree.specs.declared.literal.Literal.{Literal}
-use Rattle.helix_tree.specs.declared.literal.Literal.TheVariants.{Null, NotNull, Plain, Joined}
-use Rattle.helix_tree.specs.declared.tree.Tree.{Tree, Lit, All', Any', Row_of-Tree, end_of-Tree, more_of-Tree}
 use Rattle.helix_values.specs.declared.cell.Cell.{Cell}
-use Rattle.helix_options.proofs.Refuting.{Fits, Says, standing_says}
-use Rattle.helix_options.proofs.Truth.{literal_true, path_true, tree_true, each_true, some_true, decided, decided-true, true-decided, signed-true, negation-true, path_true-append}
-use Rattle.helix_options.specs.Inner.Literals.{signed, standing_of}
-use Rattle.helix_options.specs.Inner.Search.{Found, nothing, both, one_step, by_standing, with_literal, with_relation, with_open, tree_standing, search, search_each, search_some, search_all}
-use Rattle.helix_options.specs.declared.branch.Demand.{Demand}
+use Rattle.helix_options.proofs.Refuting.{Says}
+use Rattle.helix_options.proofs.Truth.{path_true}
+use Rattle.helix_options.specs.Inner.Clashes.{decided}
+use Rattle.helix_options.specs.Inner.Search.{Found, by_standing}
 use Rattle.helix_options.specs.declared.standing.Standing.{Standing}
 use Rattle.helix_options.specs.declared.standing.Standing.TheVariants.{Implied, Refuted, Open}
 

@@ -1,11 +1,11 @@
 -- A branch goes down to its first path, and a list of branches to that of its last one.
-use Rattle.std.proofs.Common.{◌≡◌, ◌≢◌, ◌==◌, ℕ, ◌+◌, ◌-◌, ◌<◌, ◌≤◌, Bool, true, false, Option, None, Some, List, [], ◌∷◌, ◌++◌, length, take, get_or, refl, sym, ap, subst, ◌∙◌, arith, append_assoc}
+use Rattle.std.proofs.Common.{◌≡◌, ◌≢◌, ◌==◌, ℕ, ◌+◌, ◌-◌, ◌<◌, ◌≤◌, Bool, true, false, Option, None, Some, List, [], ◌∷◌, ◌++◌, length, take, get_or, refl, sym, ap, subst, ◌∙◌, arith}
 use Rattle.std.proofs.lemmas.Bool.{false≢true, eq-eqb}
 use Rattle.std.proofs.lemmas.List.{take_more}
 use Rattle.std.proofs.Math.Seq.{take-length}
 use Rattle.helix_tree.specs.declared.literal.Literal.{Literal}
 use Rattle.helix_options.proofs.Searching.{search_all-append, found_by_all-append, both-nothing, nothing-both}
-use Rattle.helix_options.specs.Inner.Search.{Found, nothing, one_path, both, search_all, found_by, found_by_all, paths_left, GoesOn, Keeps, FirstPath, with_branch, with_demand}
+use Rattle.helix_options.specs.Inner.Search.{Found, one_path, both, search_all, found_by, found_by_all, paths_left, GoesOn, Keeps, FirstPath, with_branch, with_demand}
 use Rattle.helix_options.specs.declared.branch.Branch.{Branch}
 use Rattle.helix_options.specs.declared.branch.Demand.{Demand}
 

@@ -1,9 +1,7 @@
 -- Of the paths that a search finds, one holds where the literals so far, the tree and what comes after it hold, and
 -- none does elsewhere.
-use Rattle.std.proofs.Common.{◌≡◌, ◌↔◌, ℕ, ◌+◌, Bool, true, false, not, ◌&&◌, ◌||◌, MatchBool, List, [], ◌∷◌, ◌++◌, refl, sym, ap, ◌∙◌, zero-add, add-zero, add_assoc}
-use Rattle.std.proofs.lemmas.Bool.{false≢true}
-use Rattle.helix_profile.specs.Holds as value
-use Rattle.helix_profile.specs.Satisfaction.{cell_at, is_null, Signed}
+use Rattle.std.proofs.Common.{◌≡◌, ◌+◌, Bool, true, false, not, ◌&&◌, List, [], ◌∷◌, ◌++◌, refl, ap, ◌∙◌}
+use Rattle.helix_profile.specs.Satisfaction.{cell_at, is_null}
 use Rattle.helix_profile.specs.declared.relation.Relation.{Relation}
 use Rattle.helix_tree.specs.TreeLaws.{dec_literal}
 use Rattle.helix_tree.specs.declared.literal.Literal.{Literal}
@@ -11,12 +9,9 @@ use Rattle.helix_tree.specs.declared.literal.Literal.TheVariants.{Null, NotNull,
 use Rattle.helix_tree.specs.declared.tree.Tree.{Tree, Lit, All', Any', Row_of-Tree, end_of-Tree, more_of-Tree}
 use Rattle.helix_values.specs.declared.cell.Cell.{Cell}
 use Rattle.helix_options.proofs.Refuting.{Fits, Says, standing_says}
-use Rattle.helix_options.proofs.Truth.{literal_true, path_true, tree_true, each_true, some_true, decided, decided-true, true-decided, signed-true, negation-true, path_true-append}
+use Rattle.helix_options.proofs.Truth.{literal_true, path_true, tree_true, each_true, some_true, decided-true, true-decided, signed-true, negation-true, path_true-append}
 use Rattle.helix_options.specs.Inner.Literals.{signed, standing_of}
-use Rattle.helix_options.specs.Inner.Search.{Found, nothing, both, one_step, by_standing, with_literal, with_relation, with_open, tree_standing, search, search_each, search_some, search_all}
-use Rattle.helix_options.specs.declared.branch.Demand.{Demand}
-use Rattle.helix_options.specs.declared.standing.Standing.{Standing}
-use Rattle.helix_options.specs.declared.standing.Standing.TheVariants.{Implied, Refuted, Open}
+use Rattle.helix_options.specs.Inner.Search.{Found, nothing, both, one_step, with_literal, with_relation, with_open, tree_standing, search, search_each, search_some}
 use Rattle.helix_options.proofs.Counting.{bit, holding, holding-append, Counts, chosen, three_ways, true_is, false_is, some_chosen}
 
 module _ (nullable : List Bool) (row : List Cell) (fits : Fits nullable row) where

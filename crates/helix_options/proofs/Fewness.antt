@@ -1,5 +1,5 @@
 -- A search finds at most as many paths as its tree has options, times those of what comes after it.
-use Rattle.std.proofs.Common.{◌≡◌, ℕ, ◌+◌, ◌*◌, ◌≤◌, ◌⊎◌, inl, inr, ⊎_elim, Bool, true, false, not, List, [], ◌∷◌, ◌++◌, length, refl, sym, ap, subst, ◌∙◌, arith, length-append}
+use Rattle.std.proofs.Common.{◌≡◌, ℕ, ◌+◌, ◌*◌, ◌≤◌, ◌⊎◌, inl, inr, ⊎_elim, Bool, true, false, not, List, [], ◌∷◌, ◌++◌, length, refl, sym, subst, arith, length-append}
 use Rattle.helix_profile.specs.Width.{product_of_widths}
 use Rattle.helix_profile.specs.declared.constraint.Constraint.{Constraint}
 use Rattle.helix_profile.specs.declared.relation.Relation.{Relation}
@@ -8,7 +8,7 @@ use Rattle.helix_tree.specs.declared.literal.Literal.TheVariants.{Null, NotNull,
 use Rattle.helix_tree.specs.declared.tree.Tree.{Tree, Lit, All', Any', Row_of-Tree, end_of-Tree, more_of-Tree}
 use Rattle.helix_options.proofs.Options.{literal_options, options, each_options, some_options, tree-widths}
 use Rattle.helix_options.specs.Inner.Literals.{signed, standing_of}
-use Rattle.helix_options.specs.Inner.Search.{Found, nothing, one_path, both, one_step, by_standing, with_literal, with_relation, with_open, tree_standing, search, search_each, search_some, search_all, first_demands}
+use Rattle.helix_options.specs.Inner.Search.{Found, nothing, one_path, both, one_step, by_standing, with_literal, with_relation, with_open, search, search_each, search_some, search_all, first_demands}
 use Rattle.helix_options.specs.declared.branch.Demand.{Demand}
 use Rattle.helix_options.specs.declared.standing.Standing.{Standing}
 use Rattle.helix_options.specs.declared.standing.Standing.TheVariants.{Implied, Refuted, Open}

@@ -1,8 +1,8 @@
 -- What the literals of a branch say of one more, and the demands of constraints, as code finds them.
-use Rattle.std.proofs.Common.{◌≡◌, ℕ, zero, suc, ◌+◌, ◌<◌, ◌||◌, Bool, true, false, Option, None, Some, List, [], ◌∷◌, ◌++◌, length, map, take, get_or, slice_get, refl, sym, ap, ◌∙◌, arith}
+use Rattle.std.proofs.Common.{◌≡◌, ℕ, zero, suc, ◌+◌, ◌<◌, ◌||◌, ◌&&◌, Bool, true, false, Some, List, [], ◌∷◌, ◌++◌, length, take, get_or, slice_get, refl, sym, ap, ◌∙◌, arith}
 use Rattle.std.proofs.lemmas.List.{take_more}
 use Rattle.std.proofs.lemmas.List.Elements.{filter_map-append}
-use Rattle.std.specs.List.{filter_map, cons_option, remove}
+use Rattle.std.specs.List.{filter_map, cons_option, list_any, remove}
 use Rattle.helix_profile.specs.declared.constraint.Constraint.{Constraint}
 use Rattle.helix_profile.specs.declared.relation.Relation.{Relation}
 use Rattle.helix_profile.specs.declared.test.Atom.{Atom as FieldTest}
@@ -10,16 +10,21 @@ use Rattle.helix_tree.specs.TreeOf.{signed_tree}
 use Rattle.helix_tree.specs.declared.literal.Literal.{Literal}
 use Rattle.helix_tree.specs.declared.literal.Literal.TheVariants.{Plain, Joined}
 use Rattle.helix_tree.specs.declared.tree.Tree.{Tree}
-use Rattle.helix_options.specs.Inner.Literals.{signed, contradict, is_refuted}
+use Rattle.helix_options.specs.Inner.Clashes.{both_or_none, clashes_with}
+use Rattle.helix_options.specs.Inner.Literals.{signed, contradict, has_value, is_refuted}
 use Rattle.helix_options.specs.Inner.Search.{first_demands}
 use Rattle.helix_options.specs.declared.branch.Demand.{Demand}
 
 module _ (nullable : List Bool) (literals : List Literal) (literal : Literal) (sign : Bool) where
   test_law : (atom : FieldTest) (own strict sign : Bool)
-      → contradict nullable atom.field (signed (Plain atom own strict) sign ∷ literals)
+      → (contradict nullable atom.field (signed (Plain atom own strict) sign ∷ literals)
+      || (has_value nullable atom.field (signed (Plain atom own strict) sign ∷ literals)
+      && list_any (clashes_with atom (both_or_none own sign)) literals))
       ≡ is_refuted nullable (signed (Plain atom own strict) sign) literals
-  test_law atom own strict true = refl
-  test_law atom own strict false = refl
+  test_law atom true strict true = refl
+  test_law atom false strict true = refl
+  test_law atom true strict false = refl
+  test_law atom false strict false = refl
 
   relation_law : (relation : Relation) (own strict sign : Bool)
       → (contradict nullable relation.left (signed (Joined relation own strict) sign ∷ literals)
@@ -28,11 +33,16 @@ module _ (nullable : List Bool) (literals : List Literal) (literal : Literal) (s
   relation_law relation own strict true = refl
   relation_law relation own strict false = refl
 
-  pub test_refuted : (atom : FieldTest) (own strict result : Bool) → literal ≡ Plain atom own strict
-      → result ≡ contradict nullable atom.field (signed literal sign ∷ literals)
+  pub test_refuted : (atom : FieldTest) (own strict test_sign result : Bool) → literal ≡ Plain atom own strict
+      → test_sign ≡ both_or_none own sign
+      → result ≡ (contradict nullable atom.field (signed literal sign ∷ literals)
+      || (has_value nullable atom.field (signed literal sign ∷ literals)
+      && list_any (clashes_with atom test_sign) literals))
       → result ≡ is_refuted nullable (signed literal sign) literals
-  test_refuted atom own strict result is answer = answer
-      ∙ (ap (λ l. contradict nullable atom.field (signed l sign ∷ literals)) is
+  test_refuted atom own strict test_sign result is sign_is answer = answer
+      ∙ ((λ i. contradict nullable atom.field (signed (is i) sign ∷ literals)
+      || (has_value nullable atom.field (signed (is i) sign ∷ literals)
+      && list_any (clashes_with atom (sign_is i)) literals))
       ∙ (test_law atom own strict sign ∙ ap (λ l. is_refuted nullable (signed l sign) literals) (sym is)))
 
   pub left_refuted : (relation : Relation) (own strict left result : Bool) → literal ≡ Joined relation own strict

@@ -1,6 +1,7 @@
 pub mod Searching
 pub mod Truth
 pub mod Refuting
+pub mod Clashing
 pub mod Counting
 pub mod Exactness
 pub mod Options

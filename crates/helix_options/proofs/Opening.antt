@@ -1,5 +1,5 @@
 -- What is promised of the paths of a part, by the search from its constraints.
-use Rattle.std.proofs.Common.{◌≡◌, ◌↔◌, ℕ, zero, suc, ◌+◌, ◌<◌, ◌==◌, ◌⊎◌, inl, inr, Bool, true, false, not, ◌&&◌, ◌||◌, Option, None, Some, List, [], ◌∷◌, ◌++◌, length, map, Contains, slice_get, unwrap_or, Result, IfOk, refl, sym, ap, subst, ◌∙◌, arith, add-zero, zero-add}
+use Rattle.std.proofs.Common.{◌≡◌, ◌↔◌, ℕ, zero, suc, ◌+◌, ◌==◌, ◌⊎◌, inl, inr, Bool, true, false, ◌&&◌, ◌||◌, Option, None, Some, List, [], ◌∷◌, map, Contains, slice_get, Result, IfOk, refl, sym, ap, subst, ◌∙◌, arith, add-zero, zero-add}
 use Rattle.std.proofs.lemmas.Bool.{false≢true, eq-eqb}
 use Rattle.std.proofs.lemmas.List.Elements.{Contains-append_right}
 use Rattle.std.specs.List.{AllByRecursion, filter_map, cons_option, list_any}
@@ -7,7 +7,7 @@ use Rattle.helix_base.specs.declared.memory.Memory.{Memory}
 use Rattle.helix_profile.specs.Content.{Content}
 use Rattle.helix_profile.specs.Fields.{fields_of}
 use Rattle.helix_profile.specs.Good.{IsCellOf, AreCellsOf}
-use Rattle.helix_profile.specs.Satisfaction.{cell_at, is_null, Satisfies, AllSatisfied}
+use Rattle.helix_profile.specs.Satisfaction.{is_null, AllSatisfied}
 use Rattle.helix_profile.specs.Validity.{IsConstraintFor, IsValidProfile}
 use Rattle.helix_profile.specs.declared.constraint.Constraint.{Constraint}
 use Rattle.helix_profile.specs.declared.field.Field.{Field}
@@ -24,10 +24,8 @@ use Rattle.helix_options.proofs.Refuting.{Fits}
 use Rattle.helix_options.proofs.Demanding.{if_ok}
 use Rattle.helix_options.proofs.Truth.{path_true, tree_true, tree-true, path-true}
 use Rattle.helix_options.proofs.Valid.{TreeValid, all_valid, tree-valid}
-use Rattle.helix_options.specs.Literals.{IsLiteralOf}
 use Rattle.helix_options.specs.Parts.{IsPartOf}
 use Rattle.helix_options.specs.Paths.{PathHolds, ExactlyOneHolds, NoneHolds, constraints_of, IsExactFor, IsFewFor, AreValidFor}
-use Rattle.helix_options.specs.Inner.Literals.{may_be_null}
 use Rattle.helix_options.specs.Inner.Search.{Found, one_path, search, search_all, first_demands, paths_left}
 use Rattle.helix_options.specs.declared.branch.Branch.{Branch}
 use Rattle.helix_options.specs.declared.branch.Demand.{Demand}

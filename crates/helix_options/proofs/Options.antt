@@ -1,19 +1,15 @@
 -- How many paths a search finds at most: the width of a tree is that of its constraint.
-use Rattle.std.proofs.Common.{◌≡◌, ℕ, ◌+◌, ◌*◌, ◌≤◌, ◌⊎◌, inl, inr, ⊎_elim, Bool, true, false, not, List, [], ◌∷◌, ◌++◌, length, map, refl, sym, ap, subst, ◌∙◌, arith, length-append}
-use Rattle.helix_profile.specs.Width.{Widths, widths_of_all, widths_of_any, widths_of, widths_of_parts, product_of_widths}
+use Rattle.std.proofs.Common.{◌≡◌, ℕ, ◌+◌, ◌*◌, Bool, true, false, not, List, [], ◌∷◌, map, refl, ap, ◌∙◌}
+use Rattle.helix_profile.specs.Width.{Widths, widths_of_all, widths_of_any, widths_of, widths_of_parts}
 use Rattle.helix_profile.specs.declared.constraint.Constraint.{Constraint, Atom, Related, Not', AllOf', AnyOf', If', Row_of-Constraint, end_of-Constraint, more_of-Constraint, None', Some'}
 use Rattle.helix_profile.specs.declared.test.Test.{Test}
 use Rattle.helix_profile.specs.declared.test.Test.TheVariants as test
-use Rattle.helix_tree.specs.TreeOf.{literal_of, joined_tree, signed_tree, signed_trees, opposite}
+use Rattle.helix_tree.specs.TreeOf.{literal_of, signed_tree, signed_trees}
 use Rattle.helix_tree.specs.declared.literal.Literal.{Literal}
-use Rattle.helix_tree.specs.declared.literal.Literal.TheVariants.{Null, NotNull, Plain, Joined}
+use Rattle.helix_tree.specs.declared.literal.Literal.TheVariants.{Joined}
 use Rattle.helix_tree.specs.declared.tree.Tree.{Tree, Lit, All', Any', Row_of-Tree, end_of-Tree, more_of-Tree}
 use Rattle.helix_tree.specs.declared.tree.Tree.TheViews.{All, Any}
-use Rattle.helix_options.specs.Inner.Literals.{signed, standing_of}
-use Rattle.helix_options.specs.Inner.Search.{Found, nothing, one_path, both, one_step, by_standing, with_literal, with_relation, with_open, tree_standing, search, search_each, search_some, search_all, first_demands}
-use Rattle.helix_options.specs.declared.branch.Demand.{Demand}
-use Rattle.helix_options.specs.declared.standing.Standing.{Standing}
-use Rattle.helix_options.specs.declared.standing.Standing.TheVariants.{Implied, Refuted, Open}
+use Rattle.helix_options.specs.Inner.Literals.{signed}
 
 abbrev pub literal_options : Literal → ℕ
 literal_options (Joined relation sign false) = 3

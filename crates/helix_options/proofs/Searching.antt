@@ -1,5 +1,5 @@
 -- Searches over the parts of a tree, over more demands and over more branches, as code sees them.
-use Rattle.std.proofs.Common.{◌≡◌, ℕ, ◌+◌, Bool, true, false, not, List, [], ◌∷◌, ◌++◌, refl, sym, ap, ◌∙◌, append_assoc, add_assoc, add-zero, zero-add, append-nil}
+use Rattle.std.proofs.Common.{◌≡◌, Bool, true, false, not, List, [], ◌∷◌, ◌++◌, refl, sym, ap, ◌∙◌, append_assoc, add_assoc, add-zero, zero-add, append-nil}
 use Rattle.std.proofs.Math.Path.{fun_ext}
 use Rattle.helix_tree.specs.declared.literal.Literal.{Literal}
 use Rattle.helix_tree.specs.declared.tree.Tree.{Tree, All', Any'}

@@ -1,16 +1,14 @@
 -- One step of a branch finds the same paths, in fewer steps.
-use Rattle.std.proofs.Common.{◌≡◌, ℕ, ◌+◌, ◌<◌, Bool, true, false, not, if◌then◌else◌, Option, None, Some, List, [], ◌∷◌, ◌++◌, Result, Ok, Err, IfOk, refl, sym, ap, subst, ◌∙◌, arith, append_assoc}
+use Rattle.std.proofs.Common.{◌≡◌, ℕ, ◌+◌, ◌<◌, Bool, true, false, not, if◌then◌else◌, List, [], ◌∷◌, ◌++◌, refl, sym, ap, subst, ◌∙◌, arith}
 use Rattle.std.proofs.lemmas.List.{append-nil}
-use Rattle.std.proofs.Math.Path.{fun_ext}
-use Rattle.helix_base.specs.declared.memory.Memory.{Memory}
 use Rattle.helix_profile.specs.declared.relation.Relation.{Relation}
 use Rattle.helix_tree.specs.declared.literal.Literal.{Literal}
-use Rattle.helix_tree.specs.declared.literal.Literal.TheVariants.{Null, NotNull, Plain, Joined}
+use Rattle.helix_tree.specs.declared.literal.Literal.TheVariants.{Null, NotNull, Joined}
 use Rattle.helix_tree.specs.declared.tree.Tree.{Tree, Lit}
 use Rattle.helix_tree.specs.declared.tree.Tree.TheViews.{All, Any}
-use Rattle.helix_options.proofs.Searching.{search-All-plus, search-All-minus, search-Any-plus, search-Any-minus, search_all-append, found_by_all-append, both_assoc, both-nothing, nothing-both}
+use Rattle.helix_options.proofs.Searching.{search-All-minus, search-Any-plus, search_all-append, found_by_all-append, both_assoc, nothing-both}
 use Rattle.helix_options.specs.Inner.Literals.{signed, standing_of}
-use Rattle.helix_options.specs.Inner.Search.{Found, nothing, one_path, both, one_step, by_standing, with_relation, with_open, tree_standing, search, each_of, one_of, search_all, found_by, found_by_all, GoesOn, with_branch, with_demand, that_holds, demanding, demands_for}
+use Rattle.helix_options.specs.Inner.Search.{Found, nothing, one_path, both, one_step, by_standing, with_relation, with_open, tree_standing, search, one_of, search_all, found_by, found_by_all, GoesOn, with_branch, with_demand, that_holds, demanding}
 use Rattle.helix_options.specs.declared.branch.Branch.{Branch}
 use Rattle.helix_options.specs.declared.branch.Demand.{Demand}
 use Rattle.helix_options.specs.declared.standing.Standing.{Standing}

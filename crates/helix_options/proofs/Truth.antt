@@ -1,18 +1,15 @@
 -- Whether literals, paths and trees hold in a row, as truth values.
-use Rattle.std.proofs.Common.{◌≡◌, ◌↔◌, ℕ, ◌+◌, Bool, true, false, not, ◌&&◌, ◌||◌, List, [], ◌∷◌, ◌++◌, ◌⊎◌, inl, inr, ⊎_elim, refl, sym, ap, ◌∙◌}
+use Rattle.std.proofs.Common.{◌≡◌, ◌↔◌, Bool, true, false, not, ◌&&◌, ◌||◌, List, [], ◌∷◌, ◌++◌, ◌⊎◌, inl, inr, ⊎_elim, refl, sym, ap, ◌∙◌}
 use Rattle.std.proofs.lemmas.Bool.{false≢true}
-use Rattle.helix_tree.specs.Tree.{LiteralHolds, TreeHolds, EachPartHolds, SomePartHolds}
+use Rattle.helix_tree.specs.Tree.{TreeHolds, EachPartHolds, SomePartHolds}
 use Rattle.helix_tree.specs.TreeLaws.{dec_literal, opposite_complement}
 use Rattle.helix_tree.specs.TreeOf.{opposite}
 use Rattle.helix_tree.specs.declared.literal.Literal.{Literal}
 use Rattle.helix_tree.specs.declared.tree.Tree.{Tree, Lit, All', Any', Row_of-Tree, end_of-Tree, more_of-Tree}
 use Rattle.helix_values.specs.declared.cell.Cell.{Cell}
 use Rattle.helix_options.specs.Paths.{PathHolds}
+use Rattle.helix_options.specs.Inner.Clashes.{decided}
 use Rattle.helix_options.specs.Inner.Literals.{signed}
-
-abbrev pub decided : {A : Type 0} → Dec A → Bool
-decided (yes a) = true
-decided (no none) = false
 
 pub decided-true : {A : Type 0} (d : Dec A) → decided d ≡ true → A
 decided-true (yes a) e = a

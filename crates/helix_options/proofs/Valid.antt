@@ -1,7 +1,6 @@
 -- The literals of the paths that a search finds are those of its tree, or say whether an end of a relation is null.
-use Rattle.std.proofs.Common.{◌≡◌, ℕ, ◌==◌, ◌||◌, Bool, true, false, not, List, [], ◌∷◌, ◌++◌, refl, sym, ap, subst, ◌∙◌, Contains}
-use Rattle.std.proofs.lemmas.Bool.{eqb-true}
-use Rattle.std.specs.List.{AllByRecursion, list_any}
+use Rattle.std.proofs.Common.{ℕ, Bool, true, false, not, List, [], ◌∷◌, ◌++◌, Contains}
+use Rattle.std.specs.List.{AllByRecursion}
 use Rattle.helix_profile.specs.Fields.{fields_of, fields_of_parts}
 use Rattle.helix_profile.specs.Validity.{IsConstraintFor, ArePartsFor}
 use Rattle.helix_profile.specs.declared.constraint.Constraint.{Constraint, Atom, Related, Not', AllOf', AnyOf', If', Row_of-Constraint, end_of-Constraint, more_of-Constraint, None', Some'}
@@ -9,14 +8,14 @@ use Rattle.helix_profile.specs.declared.field.Field.{Field}
 use Rattle.helix_profile.specs.declared.relation.Relation.{Relation}
 use Rattle.helix_profile.specs.declared.test.Test.{Test}
 use Rattle.helix_profile.specs.declared.test.Test.TheVariants as test
-use Rattle.helix_tree.specs.TreeOf.{literal_of, joined_tree, signed_tree, signed_trees, opposite}
+use Rattle.helix_tree.specs.TreeOf.{literal_of, joined_tree, signed_tree, signed_trees}
 use Rattle.helix_tree.specs.declared.literal.Literal.{Literal}
 use Rattle.helix_tree.specs.declared.literal.Literal.TheVariants.{Null, NotNull, Plain, Joined}
 use Rattle.helix_tree.specs.declared.tree.Tree.{Tree, Lit, All', Any', Row_of-Tree, end_of-Tree, more_of-Tree}
 use Rattle.helix_tree.specs.declared.tree.Tree.TheViews.{All, Any}
 use Rattle.helix_options.specs.Literals.{IsPlain, IsTestOf, IsRelationOf, IsLiteralOf}
 use Rattle.helix_options.specs.Inner.Literals.{signed, standing_of}
-use Rattle.helix_options.specs.Inner.Search.{Found, nothing, one_path, both, one_step, by_standing, with_literal, with_relation, with_open, tree_standing, search, search_each, search_some, search_all, first_demands}
+use Rattle.helix_options.specs.Inner.Search.{Found, nothing, both, one_step, by_standing, with_literal, with_relation, with_open, tree_standing, search, search_each, search_some, search_all}
 use Rattle.helix_options.specs.declared.branch.Demand.{Demand}
 use Rattle.helix_options.specs.declared.standing.Standing.{Standing}
 use Rattle.helix_options.specs.declared.standing.Standing.TheVariants.{Implied, Refuted, Open}

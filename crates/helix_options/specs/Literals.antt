@@ -1,13 +1,11 @@
 -- Literals that speak of the fields of a part, in ways that their kinds allow.
 use Rattle.std.specs.Prelude.{ℕ, List, Contains}
-use Rattle.helix_profile.specs.Content.{Content}
 use Rattle.helix_profile.specs.Validity.{FieldWith, IsTestFor, IsRelationFor}
 use Rattle.helix_profile.specs.declared.field.Field.{Field}
 use Rattle.helix_profile.specs.declared.relation.Relation.{Relation}
 use Rattle.helix_profile.specs.declared.test.Atom.{Atom}
 use Rattle.helix_profile.specs.declared.test.Test.{Test}
 use Rattle.helix_profile.specs.declared.test.Test.TheVariants as test
-use Rattle.helix_partition.specs.declared.partition.Partition.{Partition}
 use Rattle.helix_tree.specs.declared.literal.Literal.{Literal}
 use Rattle.helix_tree.specs.declared.literal.Literal.TheVariants.{Null, NotNull, Plain, Joined}
 

@@ -24,6 +24,7 @@
 
 mod advance;
 mod branch;
+mod clash;
 mod descend;
 pub mod laws;
 mod literals;

@@ -1,10 +1,13 @@
 //! What the literals of a branch say of one more.
 
-ghost use Rattle.std.specs.Prelude.{◌≡◌, ◌∷◌};
+ghost use Rattle.std.specs.Prelude.{◌≡◌, ◌∷◌, ◌||◌, ◌&&◌};
 ghost use Rattle.std.specs.List.{list_any};
+ghost use Rattle.helix_options.specs.Inner.Clashes.{clashes_with};
 ghost use Rattle.helix_options.specs.Inner.Literals.{signed, asks_value as value_asked, asks_null as null_asked, may_be_null as nullable_at, has_value as valued, has_none as voided, contradict as contradicted, is_refuted as refuted, standing_of};
 
+use crate::clash::{both_or_none, some_clash};
 use crate::literals::{asks_null, asks_value};
+use helix_profile::Atom;
 use helix_tree::Literal;
 
 /// A literal against others that hold.
@@ -41,12 +44,39 @@ fn is_refuted(nullable: &[bool], literal: &Literal, sign: bool, literals: &[Lite
     match literal {
         Literal::Null(field) => contradict(nullable, *field, literal, sign, literals),
         Literal::NotNull(field) => contradict(nullable, *field, literal, sign, literals),
-        Literal::Plain(atom, _, _) => contradict(nullable, atom.field, literal, sign, literals),
+        Literal::Plain(atom, own, _) => {
+            is_test_refuted(
+                nullable,
+                atom,
+                both_or_none(*own, sign),
+                literal,
+                sign,
+                literals,
+            )
+        }
         Literal::Joined(relation, _, _) => {
             contradict(nullable, relation.left, literal, sign, literals)
                 || contradict(nullable, relation.right, literal, sign, literals)
         }
     }
+}
+
+/// The same of a literal that is a test, with its sign.
+fn is_test_refuted(
+    nullable: &[bool],
+    atom: &Atom,
+    test_sign: bool,
+    literal: &Literal,
+    sign: bool,
+    literals: &[Literal],
+) -> bool
+    ensures { result ≡ (contradicted nullable.now atom.now.field (signed literal.now sign ∷ literals.now)
+        || (valued nullable.now atom.now.field (signed literal.now sign ∷ literals.now)
+        && list_any (clashes_with atom.now test_sign) literals.now)) }
+{
+    contradict(nullable, atom.field, literal, sign, literals)
+        || (has_value(nullable, atom.field, literal, sign, literals)
+            && some_clash(atom, test_sign, literals))
 }
 
 /// Whether the literals and one more can't hold, by what they ask of a field.

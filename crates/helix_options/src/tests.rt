@@ -9,7 +9,7 @@ use std::test::Fail;
 /// Three fields, each null, 1 or 2 where it may be null, and the number of paths that there are.
 type Case = ([bool; 3], &'static [Step], usize);
 
-const CASES: [Case; 12] = [
+const CASES: [Case; 15] = [
     ([true, true, true], &[], 1),
     (
         [true, true, true],
@@ -19,7 +19,7 @@ const CASES: [Case; 12] = [
     (
         [false, true, true],
         &[Step::Equal(0, 1), Step::Equal(1, 1), Step::If],
-        3,
+        2,
     ),
     ([true, true, true], &[Step::Less(0, 1)], 3),
     ([false, true, true], &[Step::Less(0, 1)], 2),
@@ -55,6 +55,30 @@ const CASES: [Case; 12] = [
         1,
     ),
     ([false, true, true], &[Step::Null(0, true)], 0),
+    // two tests of a value that clash, of a value that may be null, and of the alternatives of two fields
+    (
+        [false, true, true],
+        &[Step::Equal(0, 1), Step::Equal(0, 2)],
+        0,
+    ),
+    (
+        [true, true, true],
+        &[Step::Equal(0, 1), Step::Equal(0, 2)],
+        1,
+    ),
+    (
+        [false, false, true],
+        &[
+            Step::Equal(0, 1),
+            Step::Equal(1, 1),
+            Step::AllOf,
+            Step::Equal(0, 2),
+            Step::Equal(1, 2),
+            Step::AllOf,
+            Step::AnyOf,
+        ],
+        2,
+    ),
     (
         [true, true, true],
         &[

@@ -1,9 +1,10 @@
 -- What a literal asks of a field, and when a list of literals can't hold.
-use Rattle.std.specs.Prelude.{◌≡◌, ℕ, Bool, true, false, not, ◌&&◌, ◌||◌, ◌==◌, if◌then◌else◌, unwrap_or, List, [], ◌∷◌, slice_get}
+use Rattle.std.specs.Prelude.{ℕ, Bool, true, false, not, ◌&&◌, ◌||◌, ◌==◌, if◌then◌else◌, unwrap_or, List, ◌∷◌, slice_get}
 use Rattle.std.specs.List.{list_any}
 use Rattle.helix_tree.specs.TreeOf.{opposite}
 use Rattle.helix_tree.specs.declared.literal.Literal.{Literal}
 use Rattle.helix_tree.specs.declared.literal.Literal.TheVariants.{Null, NotNull, Plain, Joined}
+use Rattle.helix_options.specs.Inner.Clashes.{clashes_with}
 use Rattle.helix_options.specs.declared.standing.Standing.{Standing}
 use Rattle.helix_options.specs.declared.standing.Standing.TheVariants.{Implied, Refuted, Open}
 
@@ -40,12 +41,14 @@ has_none field literals = list_any (asks_null field) literals
 abbrev pub contradict : List Bool → ℕ → List Literal → Bool
 contradict nullable field literals = has_value nullable field literals && has_none field literals
 
--- the literal can't hold where these do, by what they ask of its fields
+-- The literal can't hold where these do: by what they ask of its fields, or because its field has a value, and its test
+-- clashes with another one of that value.
 abbrev pub is_refuted : List Bool → Literal → List Literal → Bool
 is_refuted nullable (Null field) literals = contradict nullable field (Null field ∷ literals)
 is_refuted nullable (NotNull field) literals = contradict nullable field (NotNull field ∷ literals)
 is_refuted nullable (Plain atom sign strict) literals =
     contradict nullable atom.field (Plain atom sign strict ∷ literals)
+    || (has_value nullable atom.field (Plain atom sign strict ∷ literals) && list_any (clashes_with atom sign) literals)
 is_refuted nullable (Joined relation sign strict) literals =
     contradict nullable relation.left (Joined relation sign strict ∷ literals)
     || contradict nullable relation.right (Joined relation sign strict ∷ literals)

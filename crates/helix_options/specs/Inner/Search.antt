@@ -4,7 +4,7 @@ use Rattle.helix_profile.specs.declared.constraint.Constraint.{Constraint}
 use Rattle.helix_profile.specs.declared.relation.Relation.{Relation}
 use Rattle.helix_tree.specs.TreeOf.{signed_tree}
 use Rattle.helix_tree.specs.declared.literal.Literal.{Literal}
-use Rattle.helix_tree.specs.declared.literal.Literal.TheVariants.{Null, NotNull, Plain, Joined}
+use Rattle.helix_tree.specs.declared.literal.Literal.TheVariants.{Null, NotNull, Joined}
 use Rattle.helix_tree.specs.declared.tree.Tree.{Tree, Lit, All', Any', Row_of-Tree, end_of-Tree, more_of-Tree}
 use Rattle.helix_options.specs.Inner.Literals.{signed, standing_of}
 use Rattle.helix_options.specs.declared.branch.Branch.{Branch}

@@ -1,4 +1,4 @@
-use Rattle.std.proofs.Common.{◌≡◌, true, false, subst, sym}
+use Rattle.std.proofs.Common.{true, subst, sym}
 use Rattle.helix_options.proofs.Stepping.{relation_split}
 use Rattle.helix_options.specs.Inner.Search.{GoesOn, both, with_open, search_all, one_path, found_by_all, with_branch}
 use Rattle.helix_tree.specs.declared.literal.Literal.TheVariants.{Joined}

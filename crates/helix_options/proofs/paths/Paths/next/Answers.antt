@@ -1,4 +1,4 @@
-use Rattle.std.proofs.Common.{◌≡◌, ◌≤◌, ◌-◌, ◌∙◌, ◌∷◌, Some, None, length, vec_len, refl, sym, ap, arith}
+use Rattle.std.proofs.Common.{◌≡◌, ◌≤◌, ◌-◌, ◌∙◌, None, length, vec_len, refl, sym, arith}
 use Rattle.helix_options.proofs.Descending.{nonempty, last_is, first_at, first_taken, none_taken, less_left}
 use Rattle.helix_options.proofs.paths.Paths.next.Goals as goal
 
