@@ -3,6 +3,7 @@ pub mod Shapes
 pub mod Breaches
 pub mod Rules
 pub mod Naming
+pub mod SeenNames
 pub mod Converting
 pub mod Kept
 pub mod KeptConstraints

@@ -1,5 +1,5 @@
 -- The names of rules, one after the other.
-use Rattle.std.proofs.Common.{◌≡◌, ◌↔◌, ◌⊎◌, inl, inr, ⊎_elim, ℕ, ◌+◌, ◌<◌, ◌≤◌, Bool, true, false, IsTrue, List, [], ◌∷◌, length, take, Option, Some, None, Result, IfOk, slice_get, get_or, codes, refl, sym, ◌∙◌, ap, subst, arith}
+use Rattle.std.proofs.Common.{◌≡◌, ◌↔◌, ◌⊎◌, inl, inr, ⊎_elim, ℕ, ◌+◌, ◌<◌, ◌≤◌, Bool, true, false, IsTrue, List, [], ◌∷◌, length, take, Option, Some, None, Result, IfOk, get_or, codes, refl, sym, ◌∙◌, ap, subst, arith}
 use Rattle.std.specs.Option.{IsSomeAnd}
 use Rattle.std.proofs.lemmas.Bool.{cases_lt}
 use Rattle.std.proofs.lemmas.Option.{slice_get_read, slice_get_past}
@@ -12,7 +12,6 @@ use Rattle.helix_places.specs.declared.place.Step.TheVariants as step
 use Rattle.helix_places.specs.Members.{items_of, is_string}
 use Rattle.helix_legacy.specs.Broken.{BreaksName, IsFaultyName, is_name, name_at, name_in, name_of_some}
 use Rattle.helix_places.specs.Places.{Finds, Precedes}
-use Rattle.helix_places.specs.KeyLaws.{NoneBefore}
 use Rattle.helix_places.specs.ViewLaws.{items_of_list}
 
 -- the rule with an index
@@ -98,27 +97,6 @@ pub list_names : (v : Json) (rules : List Json) (r : Result (Option (List Step))
     → IfOk r (Finds (view.List rules) (BreaksName (view.List rules))) → IfOk r (Finds v (BreaksName v))
 list_names v rules r is says = let Q : Json → Type 0 = λ w. IfOk r (Finds w (BreaksName w)) in subst Q (sym is) says
 
--- a name among those of rules
-abbrev HasName : List Json → List ℕ → Type 0
-HasName rules name = (i : ℕ) × (i < length rules) × (name_at rules i ≡ Some (json.Str name))
-
-pub has_it : (rules : List Json) (name : List ℕ) (i : ℕ) (rule : Json) (answer : Bool) → i < length rules
-    → rule ≡ get_or rules i rule → (IsTrue answer ↔ (name_in rule ≡ Some (json.Str name))) → answer ≡ true
-    → HasName rules name
-has_it rules name i rule answer within read says is = (i, within, at_is rules i rule within read ∙ says.0 is)
-
-at_least : (rules : List Json) (name : List ℕ) (i : ℕ) → length rules ≤ i
-    → NoneBefore (λ rule. name_in rule ≡ Some (json.Str name)) rules i → (k : ℕ) → k < length rules
-    → name_at rules k ≡ Some (json.Str name) → (o : Option Json) → slice_get rules k ≡ o → ⊥
-at_least rules name i all none k within is None at =
-    let none_is : name_at rules k ≡ None = ap name_of_some at in cc
-at_least rules name i all none k within is (Some rule) at =
-    none k (omega arith) rule at (sym (ap name_of_some at) ∙ is)
-
-pub has_none : (rules : List Json) (name : List ℕ) (i : ℕ) → length rules ≤ i
-    → NoneBefore (λ rule. name_in rule ≡ Some (json.Str name)) rules i → ¬ (HasName rules name)
-has_none rules name i all none has = at_least rules name i all none has.0 has.1 has.2 (slice_get rules has.0) refl
-
 -- the name of a value that is no string
 not_string : (v : Json) → is_string v ≡ false → is_name v ≡ false
 not_string json.Null e = refl
@@ -131,6 +109,3 @@ not_string (json.Object' shape members) e = refl
 pub faulty_other : (earlier : List Json) (name : Json) → false ≡ is_string name → IsTrue true
     ↔ IsFaultyName earlier name
 faulty_other earlier name other = ((λ t. inl (not_string name (sym other))), (λ f. refl))
-
-pub named_not : (answer : Bool) (P : Type 0) → (IsTrue answer ↔ P) → answer ≡ false → ¬ P
-named_not answer P says is_false p = not_both answer (says.1 p) is_false

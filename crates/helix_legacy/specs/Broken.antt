@@ -1,6 +1,5 @@
 -- The rules of the older form: where each is broken, one definition a line of their table, and which is the first.
-use Rattle.std.specs.Prelude.{◌≡◌, ◌⊎◌, ℕ, ◌<◌, Bool, false, ◌==◌, ◌&&◌, not, nat_le, List, [], ◌∷◌, length, take, Option, Some, None, IsSomeAnd, slice_get, codes}
-use Rattle.std.specs.List.{list_all}
+use Rattle.std.specs.Prelude.{◌≡◌, ◌⊎◌, ℕ, ◌<◌, Bool, false, List, [], ◌∷◌, length, take, Option, Some, None, IsSomeAnd, slice_get, codes}
 use Rattle.helix_json.specs.declared.value.Json.{Json}
 use Rattle.helix_json.specs.declared.value.Json as json
 use Rattle.helix_legacy.specs.declared.fault.LegacyRule.{LegacyRule}

@@ -1,3 +1,4 @@
 -- What only private clauses cite.
 pub mod Parts
 pub mod Converted
+pub mod Seen

@@ -1,15 +1,17 @@
 //! The names of rules.
 
-ghost use Rattle.std.specs.Prelude.{◌≡◌, ◌<◌, ◌↔◌, ℕ, length, Some, IfOk, IfSome, IsSomeAnd, IsTrue, is_some, option_copied};
+ghost use Rattle.std.specs.Prelude.{◌≡◌, ◌↔◌, List, Some, false, IfOk, IsSomeAnd, IsTrue, option_copied};
 ghost use Rattle.helix_json.specs.declared.value.Json.TheViews as view;
-ghost use Rattle.helix_json.specs.declared.value.Json.{Str};
-ghost use Rattle.helix_legacy.specs.Broken.{BreaksName, IsFaultyName, name_at, name_in};
+ghost use Rattle.helix_json.specs.declared.value.Json.{Json, Str};
+ghost use Rattle.helix_legacy.specs.Inner.Seen.{AreNamesOf, AddsNameIn};
+ghost use Rattle.helix_legacy.specs.Broken.{BreaksName, IsFaultyName, name_in};
 ghost use Rattle.helix_places.specs.Places.{Finds};
 
 use helix_base::{Memory, Text};
 use helix_json::Json;
 use helix_places::{Place, Step, as_list, as_object, as_text, is_name_text, place_of, value_of};
 use std::alloc::Global;
+use std::collections::BTreeSet;
 
 /// The name of a rule: its member `rule`.
 pub fn name_in(rule: &Json) -> Option<&Json>
@@ -34,8 +36,9 @@ pub fn name_fault(alloc: Global, rules: &Json) -> Result<Option<Place>, Memory>
 fn names_fault(alloc: Global, rules: &[Json]) -> Result<Option<Place>, Memory>
     ensures { let v = view.List rules.now in IfOk result (Finds v (BreaksName v)) }
 {
+    let mut seen = BTreeSet::new(alloc);
     for (i, rule) in rules.iter().enumerate() {
-        if has_faulty_name(&rules[..i], rule) {
+        if has_faulty_name(&mut seen, rule)? {
             let mut place = place_of(alloc, "rule")?;
             place.step_out(Step::Item(i))?;
             return Ok(Some(place));
@@ -44,35 +47,40 @@ fn names_fault(alloc: Global, rules: &[Json]) -> Result<Option<Place>, Memory>
     Ok(None)
 }
 
-/// Whether the name of a rule is no name, or is that of an earlier rule.
-fn has_faulty_name(earlier: &[Json], rule: &Json) -> bool
-    ensures { IsTrue result ↔ IsSomeAnd (name_in rule.now) (IsFaultyName earlier.now) }
+/// Whether the name of a rule is no name, or is that of an earlier rule, which the set has. The set takes a new name.
+fn has_faulty_name<'a>(seen: &mut BTreeSet<&'a [u32]>, rule: &'a Json) -> Result<bool, Memory>
+    ensures faulty { IfOk result (λ faulty. (earlier : List Json) → AreNamesOf seen.old.keys earlier
+        → IsTrue faulty ↔ IsSomeAnd (name_in rule.now) (IsFaultyName earlier)) }
+    ensures taken { IfOk result (λ faulty. faulty ≡ false → AddsNameIn seen.old.keys seen.new.keys (name_in rule.now)) }
 {
     match name_in(rule) {
-        Some(name) => is_faulty_name(earlier, name),
-        None => false,
+        Some(name) => is_faulty_name(seen, name),
+        None => Ok(false),
     }
 }
 
-fn is_faulty_name(earlier: &[Json], name: &Json) -> bool
-    ensures { IsTrue result ↔ IsFaultyName earlier.now name.now }
+fn is_faulty_name<'a>(seen: &mut BTreeSet<&'a [u32]>, name: &'a Json) -> Result<bool, Memory>
+    ensures faulty { IfOk result (λ faulty. (earlier : List Json) → AreNamesOf seen.old.keys earlier
+        → IsTrue faulty ↔ IsFaultyName earlier name.now) }
+    ensures taken { IfOk result (λ faulty. faulty ≡ false → AddsNameIn seen.old.keys seen.new.keys (Some name.now)) }
 {
     match as_text(name) {
-        Some(text) => !is_name_text(text.codes()) || has_name(earlier, text.codes()),
-        None => true,
+        Some(text) => is_faulty_text(seen, text.codes()),
+        None => Ok(true),
     }
 }
 
-/// Whether one of the rules has a name.
-fn has_name(rules: &[Json], name: &[u32]) -> bool
-    ensures { IsTrue result ↔ ((i : ℕ) × (i < length rules.now) × (name_at rules.now i ≡ Some (Str name.now))) }
+fn is_faulty_text<'a>(seen: &mut BTreeSet<&'a [u32]>, text: &'a [u32]) -> Result<bool, Memory>
+    ensures faulty { IfOk result (λ faulty. (earlier : List Json) → AreNamesOf seen.old.keys earlier
+        → IsTrue faulty ↔ IsFaultyName earlier (Str text.now)) }
+    ensures taken { IfOk result (λ faulty. faulty ≡ false
+        → AddsNameIn seen.old.keys seen.new.keys (Some (Str text.now))) }
 {
-    for rule in rules {
-        if is_named(rule, name) {
-            return true;
-        }
+    if !is_name_text(text) {
+        return Ok(true);
     }
-    false
+    let added = seen.insert(text)?;
+    Ok(!added)
 }
 
 /// Whether a rule has a name.
