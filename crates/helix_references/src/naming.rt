@@ -1,0 +1,60 @@
+//! Fields by their names.
+
+ghost use Rattle.std.specs.Prelude.{◌≡◌, bytes_eq, option_copied};
+ghost use Rattle.helix_references.specs.Naming.{index_by, index_in, index_named, kind_at};
+
+use helix_json::Json;
+use helix_places::as_text;
+use helix_profile::Field;
+use helix_values::Kind;
+
+/// The index of the first field with a name.
+pub fn field_named(fields: &[Field], name: &[u32]) -> Option<usize>
+    ensures { result ≡ index_named fields.now name.now }
+{
+    for (i, field) in fields.iter().enumerate() {
+        if is_same_text(field.name.codes(), name) {
+            return Some(i);
+        }
+    }
+    None
+}
+
+fn is_same_text(text: &[u32], other: &[u32]) -> bool
+    ensures { result ≡ bytes_eq text.now other.now }
+{
+    text == other
+}
+
+/// The index of the field whose name a value is.
+pub fn index_in(fields: &[Field], value: &Json) -> Option<usize>
+    ensures { result ≡ index_in fields.now value.now }
+{
+    match value {
+        Json::Str(name) => field_named(fields, name.codes()),
+        _ => None,
+    }
+}
+
+/// The same of a value that may be missing.
+pub fn index_by(fields: &[Field], value: Option<&Json>) -> Option<usize>
+    ensures { result ≡ index_by fields.now (option_copied value.entry) }
+{
+    match value {
+        Some(value) => index_in(fields, value),
+        None => None,
+    }
+}
+
+/// The kind of the field with an index.
+pub fn kind_at(fields: &[Field], index: Option<usize>) -> Option<Kind>
+    ensures { result ≡ kind_at fields.now index }
+{
+    match index {
+        Some(index) => match fields.get(index) {
+            Some(field) => Some(field.kind),
+            None => None,
+        },
+        None => None,
+    }
+}
