@@ -1,3 +1,2 @@
 pub mod Bools
-pub mod Searches
 pub mod Telling

@@ -12,6 +12,7 @@ use Rattle.helix_keywords.specs.declared.keyword.FieldKeyword.{FieldKeyword}
 use Rattle.helix_keywords.specs.declared.keyword.FieldKeyword.TheVariants as field_keyword
 use Rattle.helix_keywords.specs.Keywords.{keywords, field_keywords}
 use Rattle.helix_keywords.specs.Forms.{form_of, forms, has_form, key_sets}
+use Rattle.helix_keywords.specs.SearchLaws.{find_passes, find_none}
 use Rattle.helix_keywords.specs.Inner.Telling.{shorter, telling}
 use Rattle.helix_keywords.specs.Inner.ToldLaws.{telling_there, told_is, told_telling}
 
@@ -129,25 +130,6 @@ at_form P all f =
     let others = split_all P (map form.Related field_keywords)
     (form.Not ∷ form.AnyOf ∷ form.AllOf ∷ form.If ∷ form.IfElse ∷ []) atoms.1 in
     at_each P (all_map P form.Atom keywords atoms.0) (all_map P form.Related field_keywords others.0) others.1 f
-
-passes_by : {A : Type 0} (b : Bool) (p : A → Bool) (y : A) (ys : List A) (x : A) → p y ≡ b
-    → (find p ys ≡ Some x → p x ≡ true) → cond b (Some y) (find p ys) ≡ Some x → p x ≡ true
-passes_by true p y ys x e later is = let same : y ≡ x = cc in ap p (sym same) ∙ e
-passes_by false p y ys x e later is = later is
-
-find_passes : {A : Type 0} (p : A → Bool) (xs : List A) (x : A) → find p xs ≡ Some x → p x ≡ true
-find_passes p [] x is = absurd (cc)
-find_passes p (y ∷ ys) x is = passes_by (p y) p y ys x refl (λ e. find_passes p ys x e) is
-
-fails_by : {A : Type 0} (b : Bool) (p : A → Bool) (y : A) (ys : List A)
-    → (find p ys ≡ None → AllByRecursion (λ x. p x ≡ false) ys) → cond b (Some y) (find p ys) ≡ None
-    → (b ≡ false) × AllByRecursion (λ x. p x ≡ false) ys
-fails_by true p y ys later is = absurd (cc)
-fails_by false p y ys later is = (refl, later is)
-
-find_none : {A : Type 0} (p : A → Bool) (xs : List A) → find p xs ≡ None → AllByRecursion (λ x. p x ≡ false) xs
-find_none p [] is = tt
-find_none p (y ∷ ys) is = fails_by (p y) p y ys (λ e. find_none p ys e) is
 
 pub has_form_of : (members : List Member) (f : Form) → form_of members ≡ Some f → has_form f members ≡ true
 unfolding form_of

@@ -2,6 +2,7 @@
 pub mod Keywords
 pub mod Forms
 -- Lemmas for the crates above.
+pub mod SearchLaws
 pub mod KeySetLaws
 pub mod FormLaws
 -- The crate's inner words.

@@ -1,5 +1,5 @@
 use Rattle.helix_keywords.specs.Keywords.{word_of}
-use Rattle.helix_keywords.proofs.Searches.{word_next}
+use Rattle.helix_keywords.specs.SearchLaws.{word_next}
 use Rattle.helix_keywords.proofs.keyword.keyword_named.Goals as goal
 
 pub loop-keyword-preserved : goal.loop-keyword-preserved
