@@ -2,5 +2,9 @@
 pub mod Naming
 pub mod AtMember
 pub mod Rules
+pub mod Units
+pub mod Offsets
 -- Lemmas for the crates above.
 pub mod MemberLaws
+-- The crate's inner words.
+pub mod Inner

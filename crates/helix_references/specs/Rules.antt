@@ -14,6 +14,7 @@ use Rattle.helix_values.specs.declared.kind.Kind.{Kind}
 use Rattle.helix_references.specs.declared.rule.ReferenceRule.{ReferenceRule}
 use Rattle.helix_references.specs.declared.rule.ReferenceRule.TheVariants as rule
 use Rattle.helix_references.specs.AtMember.{AtMember}
+use Rattle.helix_references.specs.Offsets.{IsFaultyAt}
 use Rattle.helix_references.specs.Naming.{index_in, index_by, kind_in, kind_by}
 
 -- the value under the key is to name a field: `field`, and the keyword of a relation
@@ -45,6 +46,13 @@ abbrev pub AreOne : Option ℕ → Option ℕ → Type 0
 AreOne (Some index) (Some other) = index ≡ other
 AreOne index other = ⊥
 
+-- the offset of a relation, or its unit, is refused at the member with this key and value
+abbrev pub IsFaultyIn : List Field → List Member → Option Form → List ℕ → Json → Type 0
+IsFaultyIn fields members (Some (form.Related keyword)) key value =
+    IsFaultyAt (kind_by fields (value_of (codes "field") members))
+    (kind_by fields (value_of (field_word keyword) members)) members key value
+IsFaultyIn fields members other key value = ⊥
+
 -- the rule is broken at the member with this key and value, of an object with these members and this form
 unfoldable pub IsFaulty : ReferenceRule → List Field → List Member → Option Form → List ℕ → Json → Type 0
 -- S9: a value that is to name a field is no string or no declared name
@@ -59,6 +67,8 @@ IsFaulty rule.OneClass fields members form key value = (is_relation_key form key
 -- S19: a field is related to itself
 IsFaulty rule.TwoFields fields members form key value = (is_relation_key form key ≡ true)
     × AreOne (index_by fields (value_of (codes "field") members)) (index_in fields value)
+-- S20: the offset of a relation, or its unit, isn't one for the classes of the fields
+IsFaulty rule.Offset fields members form key value = IsFaultyIn fields members form key value
 
 -- where a constraint breaks the rule
 abbrev pub Breaks : ReferenceRule → List Field → Json → List Step → Type 0

@@ -1,9 +1,13 @@
 //! The fields that a constraint names, and relations.
 #![tactic(auto)]
 
+mod digits;
 mod fields;
 mod naming;
+mod offset;
 mod rule;
+mod unit;
+mod whole;
 
 pub use naming::{field_named, index_in};
 pub use rule::{ReferenceRule, reference_fault};

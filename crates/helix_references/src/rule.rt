@@ -9,6 +9,7 @@ ghost use Rattle.helix_references.specs.Rules.{Breaks, IsFaulty};
 
 use crate::fields::{are_one, are_unlike, is_misused, is_relation_key, names_field};
 use crate::naming::{index_by, index_in, kind_at};
+use crate::offset::is_faulty_at;
 use helix_base::Memory;
 use helix_json::{Json, Member};
 use helix_keywords::{Form, form_of};
@@ -27,6 +28,8 @@ pub enum ReferenceRule {
     OneClass,
     /// S19: a field is related to itself.
     TwoFields,
+    /// S20: the offset of a relation, or its unit, isn't one for the fields.
+    Offset,
 }
 
 /// The first place in a constraint where it breaks a rule itself, constraints within it left aside.
@@ -96,5 +99,17 @@ fn is_faulty(
                     index_in(fields, value),
                 )
         }
+        ReferenceRule::Offset => match form {
+            Some(Form::Related(keyword)) => {
+                is_faulty_at(
+                    kind_at(fields, index_by(fields, value_of(members, "field"))),
+                    kind_at(fields, index_by(fields, value_of(members, keyword.word()))),
+                    members,
+                    key,
+                    value,
+                )
+            }
+            _ => false,
+        },
     }
 }
