@@ -4,6 +4,7 @@ pub mod AtMember
 pub mod Rules
 pub mod Units
 pub mod Offsets
+pub mod Relations
 -- Lemmas for the crates above.
 pub mod MemberLaws
 -- The crate's inner words.

@@ -5,9 +5,11 @@ mod digits;
 mod fields;
 mod naming;
 mod offset;
+mod relation;
 mod rule;
 mod unit;
 mod whole;
 
 pub use naming::{field_named, index_in};
+pub use relation::read_relation;
 pub use rule::{ReferenceRule, reference_fault};

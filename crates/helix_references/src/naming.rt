@@ -1,6 +1,6 @@
 //! Fields by their names.
 
-ghost use Rattle.std.specs.Prelude.{◌≡◌, bytes_eq, option_copied};
+ghost use Rattle.std.specs.Prelude.{◌≡◌, ◌<◌, IfSome, bytes_eq, length, option_copied};
 ghost use Rattle.helix_references.specs.Naming.{index_by, index_in, index_named, kind_at};
 
 use helix_json::Json;
@@ -10,7 +10,8 @@ use helix_values::Kind;
 
 /// The index of the first field with a name.
 pub fn field_named(fields: &[Field], name: &[u32]) -> Option<usize>
-    ensures { result ≡ index_named fields.now name.now }
+    ensures value { result ≡ index_named fields.now name.now }
+    ensures within { IfSome result (λ index. index < length fields.now) }
 {
     for (i, field) in fields.iter().enumerate() {
         if is_same_text(field.name.codes(), name) {
@@ -28,7 +29,8 @@ fn is_same_text(text: &[u32], other: &[u32]) -> bool
 
 /// The index of the field whose name a value is.
 pub fn index_in(fields: &[Field], value: &Json) -> Option<usize>
-    ensures { result ≡ index_in fields.now value.now }
+    ensures value { result ≡ index_in fields.now value.now }
+    ensures within { IfSome result (λ index. index < length fields.now) }
 {
     match value {
         Json::Str(name) => field_named(fields, name.codes()),
@@ -38,7 +40,8 @@ pub fn index_in(fields: &[Field], value: &Json) -> Option<usize>
 
 /// The same of a value that may be missing.
 pub fn index_by(fields: &[Field], value: Option<&Json>) -> Option<usize>
-    ensures { result ≡ index_by fields.now (option_copied value.entry) }
+    ensures value { result ≡ index_by fields.now (option_copied value.entry) }
+    ensures within { IfSome result (λ index. index < length fields.now) }
 {
     match value {
         Some(value) => index_in(fields, value),

@@ -90,7 +90,7 @@ fn is_faulty_shift(right: Option<Kind>, unit: Option<&Json>, value: &Json) -> bo
 }
 
 /// Whether an offset is beyond the greatest one by its unit.
-fn is_too_far(unit: MomentUnit, n: i128) -> bool
+pub fn is_too_far(unit: MomentUnit, n: i128) -> bool
     requires { nat_abs n ≤ 10 ^ 20 }
     ensures { IsTrue result ↔ (greatest unit < nat_abs n * size unit) }
 {
