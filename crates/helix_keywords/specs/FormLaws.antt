@@ -10,7 +10,7 @@ use Rattle.helix_keywords.specs.declared.keyword.Keyword.{Keyword}
 use Rattle.helix_keywords.specs.declared.keyword.Keyword.TheVariants as keyword
 use Rattle.helix_keywords.specs.declared.keyword.FieldKeyword.{FieldKeyword}
 use Rattle.helix_keywords.specs.declared.keyword.FieldKeyword.TheVariants as field_keyword
-use Rattle.helix_keywords.specs.Keywords.{keywords, field_keywords}
+use Rattle.helix_keywords.specs.Keywords.{keywords, field_keywords, word_of, field_word}
 use Rattle.helix_keywords.specs.Forms.{form_of, forms, has_form, key_sets}
 use Rattle.helix_keywords.specs.SearchLaws.{find_passes, find_none}
 use Rattle.helix_keywords.specs.Inner.Telling.{shorter, telling}
@@ -154,3 +154,40 @@ no_form_by members (Some g) is none = absurd (not_both (has_form g members) (has
 
 pub no_form : (members : List Member) → ((f : Form) → has_form f members ≡ false) → form_of members ≡ None
 no_form members none = no_form_by members (form_of members) refl none
+
+first_key : (key : List ℕ) (keys : List (List ℕ)) (members : List Member) → are_keys (key ∷ keys) members ≡ true
+    → has_key key members ≡ true
+first_key key keys members are = (and_parts (has_key key members) (list_all (λ k. has_key k members) keys)
+    (and_parts (length members == length (key ∷ keys)) (list_all (λ k. has_key k members) (key ∷ keys)) are).1).0
+
+-- an atomic constraint and a relation have a `field`
+pub atom_has_field : (k : Keyword) (members : List Member) → has_form (form.Atom k) members ≡ true
+    → has_key (codes "field") members ≡ true
+unfolding has_form key_sets
+atom_has_field k members has = first_key (codes "field") (word_of k ∷ []) members
+    (only_set (λ keys. are_keys keys members) (codes "field" ∷ word_of k ∷ []) has)
+
+pub related_has_field : (k : FieldKeyword) (members : List Member) → has_form (form.Related k) members ≡ true
+    → has_key (codes "field") members ≡ true
+unfolding has_form key_sets
+related_has_field k members has = elim (or_cases _ _ has) [
+  | inl e ↦ first_key (codes "field") (field_word k ∷ []) members e
+  | inr more ↦ elim (or_cases _ _ more) [
+    | inl e ↦ first_key (codes "field") (field_word k ∷ codes "offset" ∷ []) members e
+    | inr last ↦ elim (or_cases _ _ last) [
+      | inl e ↦ first_key (codes "field") (field_word k ∷ codes "offsetUnit" ∷ []) members e
+      | inr e ↦ first_key (codes "field") (field_word k ∷ codes "offset" ∷ codes "offsetUnit" ∷ []) members
+          (only_set (λ keys. are_keys keys members)
+          (codes "field" ∷ field_word k ∷ codes "offset" ∷ codes "offsetUnit" ∷ []) e)
+    ]
+  ]
+]
+
+-- and a member with their keyword
+pub atom_has_keyword : (k : Keyword) (members : List Member) → has_form (form.Atom k) members ≡ true
+    → has_key (word_of k) members ≡ true
+atom_has_keyword k members has = telling_there (form.Atom k) members has
+
+pub related_has_keyword : (k : FieldKeyword) (members : List Member) → has_form (form.Related k) members ≡ true
+    → has_key (field_word k) members ≡ true
+related_has_keyword k members has = telling_there (form.Related k) members has
