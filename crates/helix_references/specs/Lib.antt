@@ -7,5 +7,8 @@ pub mod Offsets
 pub mod Relations
 -- Lemmas for the crates above.
 pub mod MemberLaws
+pub mod RefusalLaws
+pub mod RelationLaws
+pub mod ValidityLaws
 -- The crate's inner words.
 pub mod Inner

@@ -73,3 +73,7 @@ IsFaulty rule.Offset fields members form key value = IsFaultyIn fields members f
 -- where a constraint breaks the rule
 abbrev pub Breaks : ReferenceRule → List Field → Json → List Step → Type 0
 Breaks rule fields v = AtMember (IsFaulty rule fields (members_of v) (form_of (members_of v))) v
+
+-- a constraint breaks none of the rules itself
+abbrev pub IsUnbroken : List Field → Json → Type 0
+IsUnbroken fields v = (rule : ReferenceRule) (place : List Step) → ¬ (Breaks rule fields v place)

@@ -3,6 +3,7 @@
 
 mod digits;
 mod fields;
+pub mod laws;
 mod naming;
 mod offset;
 mod relation;

@@ -4,12 +4,10 @@ ghost use Rattle.std.specs.Prelude.{◌≡◌, ◌^◌, ◌*◌, ◌<◌, ◌≤
 ghost use Rattle.helix_json.specs.declared.value.Json.TheViews as view;
 ghost use Rattle.helix_keywords.specs.Forms.{HasForm};
 ghost use Rattle.helix_keywords.specs.declared.form.Form.TheVariants as form;
-ghost use Rattle.helix_places.specs.declared.place.Step.{Step as Way};
 ghost use Rattle.helix_references.specs.Inner.Refusals.{IsNoOffset, IsNoPlain, IsNoShift, IsRefused};
 ghost use Rattle.helix_references.specs.Relations.{GivesOffset, GivesPlain, GivesRelation, GivesShift, compare_of, shift_by};
-ghost use Rattle.helix_references.specs.Rules.{Breaks};
+ghost use Rattle.helix_references.specs.Rules.{IsUnbroken};
 ghost use Rattle.helix_references.specs.Units.{greatest, size};
-ghost use Rattle.helix_references.specs.declared.rule.ReferenceRule.{ReferenceRule as Rule};
 ghost use Rattle.helix_values.specs.Class.{class_of_kind};
 
 use crate::naming::index_by;
@@ -29,8 +27,21 @@ pub fn read_relation(
     keyword: FieldKeyword,
 ) -> Option<Relation>
     requires { length fields.now < 2 ^ 32 }
-    ensures some { IfSome result (GivesRelation fields.now members.now keyword) }
-    ensures none { IfNone result (IsRefused fields.now members.now keyword) }
+    ensures gives { IfSome result (GivesRelation fields.now members.now keyword) }
+    ensures complete { HasForm members.now (form.Related keyword) → IsUnbroken fields.now (view.Object members.now)
+        → IsSome result }
+{
+    relation_in(fields, members, keyword)
+}
+
+fn relation_in(
+    fields: &[Field],
+    members: &[Member],
+    keyword: FieldKeyword,
+) -> Option<Relation>
+    requires { length fields.now < 2 ^ 32 }
+    ensures gives { IfSome result (GivesRelation fields.now members.now keyword) }
+    ensures refused { IfNone result (IsRefused fields.now members.now keyword) }
 {
     let Some(left) = index_by(fields, value_of(members, "field")) else {
         return None;
