@@ -1,3 +1,4 @@
--- Words that private clauses cite.
+-- Words and lemmas that only this crate cites.
 pub mod Wholes
 pub mod Refusals
+pub mod OneNumber

@@ -10,5 +10,6 @@ pub mod MemberLaws
 pub mod RefusalLaws
 pub mod RelationLaws
 pub mod ValidityLaws
+pub mod UniqueLaws
 -- The crate's inner words.
 pub mod Inner

@@ -1,6 +1,6 @@
 //! Laws over the definitions alone: each is the contract of a function that does nothing.
 
-ghost use Rattle.std.specs.Prelude.{List};
+ghost use Rattle.std.specs.Prelude.{◌≡◌, List};
 ghost use Rattle.helix_json.specs.declared.value.Json.TheViews as view;
 ghost use Rattle.helix_json.specs.declared.value.Member.{Member};
 ghost use Rattle.helix_keywords.specs.Forms.{HasForm};
@@ -19,4 +19,11 @@ pub fn relations_are_valid()
         → GivesRelation fields members keyword relation
         → FieldWith fields relation.left (λ left. FieldWith fields relation.right
         (λ right. IsRelationFor left right relation)) }
+{}
+
+/// The members of an object give at most one relation with a keyword.
+pub fn one_relation()
+    ensures { (fields : List Field) (members : List Member) (keyword : FieldKeyword) (relation other : Relation)
+        → GivesRelation fields members keyword relation → GivesRelation fields members keyword other
+        → relation ≡ other }
 {}

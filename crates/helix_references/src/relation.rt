@@ -4,6 +4,7 @@ ghost use Rattle.std.specs.Prelude.{◌≡◌, ◌^◌, ◌*◌, ◌<◌, ◌≤
 ghost use Rattle.helix_json.specs.declared.value.Json.TheViews as view;
 ghost use Rattle.helix_keywords.specs.Forms.{HasForm};
 ghost use Rattle.helix_keywords.specs.declared.form.Form.TheVariants as form;
+ghost use Rattle.helix_profile.specs.declared.relation.Relation.{Relation as Given};
 ghost use Rattle.helix_references.specs.Inner.Refusals.{IsNoOffset, IsNoPlain, IsNoShift, IsRefused};
 ghost use Rattle.helix_references.specs.Relations.{GivesOffset, GivesPlain, GivesRelation, GivesShift, compare_of, shift_by};
 ghost use Rattle.helix_references.specs.Rules.{IsUnbroken};
@@ -28,6 +29,7 @@ pub fn read_relation(
 ) -> Option<Relation>
     requires { length fields.now < 2 ^ 32 }
     ensures gives { IfSome result (GivesRelation fields.now members.now keyword) }
+    ensures none { IfNone result ((relation : Given) → ¬ (GivesRelation fields.now members.now keyword relation)) }
     ensures complete { HasForm members.now (form.Related keyword) → IsUnbroken fields.now (view.Object members.now)
         → IsSome result }
 {
