@@ -14,3 +14,6 @@ mod whole;
 pub use naming::{field_named, index_in};
 pub use relation::read_relation;
 pub use rule::{ReferenceRule, reference_fault};
+
+#[cfg(test)]
+mod tests;
