@@ -1,2 +1,2 @@
-pub mod Bools
+pub mod Or
 pub mod Telling

@@ -27,7 +27,8 @@ no_position : (p : Field → Bool) (xs : List Field)
     → ((k : ℕ) → k < length xs → (d : Field) → p (get_or xs k d) ≡ false) → position p xs ≡ None
 no_position p [] none = refl
 no_position p (x ∷ xs) none =
-    let at : position_or_len p (x ∷ xs) ≡ length (x ∷ xs) = position_or_len_is p (x ∷ xs) (length (x ∷ xs)) x (omega arith)
+    let at : position_or_len p (x ∷ xs) ≡ length (x ∷ xs) =
+    position_or_len_is p (x ∷ xs) (length (x ∷ xs)) x (omega arith)
     (λ k below. none k below x) (λ is_within. absurd (omega arith)) in
     ap (λ k. cond (nat_lt k (length (x ∷ xs))) (Some k) None) at
     ∙ ap (λ b. cond b (Some (length (x ∷ xs))) None) (le-ltb (length (x ∷ xs)) (length (x ∷ xs)) (omega arith))

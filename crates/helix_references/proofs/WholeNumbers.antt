@@ -80,11 +80,10 @@ module _ (codes text whole fraction exponent : List ℕ) (negative lowers : Bool
           let count_same : count ≡ the_whole.0 =
           count_is ∙ (ap (λ s. s / 10 ^ 15) size_is ∙ mul-div_cancel the_whole.0 (omega arith)) in
           let r_same : r ≡ signed negative the_whole.0 = r_is ∙ ap (signed negative) count_same in
-          let r_size : nat_abs r ≡ the_whole.0 = ap nat_abs r_same ∙ signed_size negative the_whole.0 in
-          (
+          let r_size : nat_abs r ≡ the_whole.0 = ap nat_abs r_same ∙ signed_size negative the_whole.0 in (
             subst (λ z. IsUnits text (z *ℤ pos (10 ^ 15))) (sym r_same) its_units,
             (λ m other. times_same m r (one_units (m *ℤ pos (10 ^ 15)) other
-            ∙ (sym (signed_times negative the_whole.0) ∙ ap (λ z. z *ℤ pos (10 ^ 15)) (sym r_same)))),
+                ∙ (sym (signed_times negative the_whole.0) ∙ ap (λ z. z *ℤ pos (10 ^ 15)) (sym r_same)))),
             omega (arith, r_size, size_is, small),
           )
 

@@ -11,5 +11,6 @@ pub mod RefusalLaws
 pub mod RelationLaws
 pub mod ValidityLaws
 pub mod UniqueLaws
+pub mod AtomLaws
 -- The crate's inner words.
 pub mod Inner

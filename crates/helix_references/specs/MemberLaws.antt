@@ -95,8 +95,11 @@ module _ (Faulty : List ℕ → Json → Type 0) (members : List Member) where
           (λ p. (p ≡ []) × Faulty m.key m.value)
           (AtMember Faulty (view.Object members)) part_is
           (record { named = (refl, faulty); first = λ other p. inl p.0 })
-          (λ p. (refl, and_some (value_of m.key (members_of (view.Object members))) (Faulty m.key) m.value part_is
-          faulty)) others
+          (λ p. (
+            refl,
+            and_some (value_of m.key (members_of (view.Object members))) (Faulty m.key) m.value part_is
+                faulty,
+          )) others
 
 -- what a search over the members says
 abbrev pub SaysAt : (List ℕ → Json → Type 0) → List Member → Option (List Step) → Type 0

@@ -27,9 +27,10 @@ IsTooFar value unit = (n : ℤ) × GivesWhole value n × (greatest unit < nat_ab
 -- the offset between two moments is refused: it has no unit, is no whole number, or goes too far by its unit
 abbrev pub IsFaultyShift : Option Kind → Option Json → Json → Type 0
 IsFaultyShift right None value = Unit {0}
-IsFaultyShift right (Some unit) value = ((n : ℤ) → ¬ (GivesWhole value n)) ⊎ IsSomeAnd (unit_in right unit) (IsTooFar value)
+IsFaultyShift right (Some unit) value = ((n : ℤ) → ¬ (GivesWhole value n))
+    ⊎ IsSomeAnd (unit_in right unit) (IsTooFar value)
 
--- the value of `offset` is refused, between fields of a class: the other field is of a kind, and `offsetUnit` has a value
+-- the value of `offset` is refused, between fields of a class, where the other one is of a kind, by the unit's value
 abbrev pub IsFaultyOffset : Class → Option Kind → Option Json → Json → Type 0
 IsFaultyOffset booleans right unit value = Unit {0}
 IsFaultyOffset strings right unit value = Unit {0}
@@ -41,7 +42,7 @@ abbrev pub IsFaultyMomentUnit : Option Kind → Option Json → Json → Type 0
 IsFaultyMomentUnit right None value = Unit {0}
 IsFaultyMomentUnit right (Some offset) value = unit_in right value ≡ None
 
--- the value of `offsetUnit` is refused, where `offset` has a value
+-- the value of `offsetUnit` is refused, by the offset's value
 abbrev pub IsFaultyUnit : Class → Option Kind → Option Json → Json → Type 0
 IsFaultyUnit booleans right offset value = Unit {0}
 IsFaultyUnit strings right offset value = Unit {0}

@@ -85,14 +85,16 @@ module _ (fields : List Field) (members : List Member) where
     refused_offset kind kind_is (inl faulty) unbroken =
         let there = some_of (value_of (codes "offset") members) (IsFaultyOffset (class_of_kind kind)
         (kind_by fields (value_of (field_word keyword) members)) (value_of (codes "offsetUnit") members)) faulty in
-        let P : Option Kind → Type 0 = λ k. IsFaultyAt k (kind_by fields (value_of (field_word keyword) members)) members
+        let P : Option Kind → Type 0 = λ k. IsFaultyAt k (kind_by fields (value_of (field_word keyword) members))
+        members
         (codes "offset") there.0 in
         unbroken rule.Offset (step.Member (codes "offset") ∷ [])
         (no_offset (codes "offset") there.0 there.1 (subst P (sym kind_is) (inl (refl, there.2))))
     refused_offset kind kind_is (inr faulty) unbroken =
         let there = some_of (value_of (codes "offsetUnit") members) (IsFaultyUnit (class_of_kind kind)
         (kind_by fields (value_of (field_word keyword) members)) (value_of (codes "offset") members)) faulty in
-        let P : Option Kind → Type 0 = λ k. IsFaultyAt k (kind_by fields (value_of (field_word keyword) members)) members
+        let P : Option Kind → Type 0 = λ k. IsFaultyAt k (kind_by fields (value_of (field_word keyword) members))
+        members
         (codes "offsetUnit") there.0 in
         unbroken rule.Offset (step.Member (codes "offsetUnit") ∷ [])
         (no_offset (codes "offsetUnit") there.0 there.1 (subst P (sym kind_is) (inr (refl, there.2))))

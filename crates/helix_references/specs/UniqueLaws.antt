@@ -154,11 +154,11 @@ module _ (fields : List Field) (members : List Member) (keyword : FieldKeyword) 
       → GivesRelation fields members keyword other → relation ≡ other
   one_relation relation other first second =
       let left : relation.left ≡ other.left =
-          let a : index_by fields (value_of (codes "field") members) ≡ Some relation.left = first.left in
-          let b : index_by fields (value_of (codes "field") members) ≡ Some other.left = second.left in cc in
+      let a : index_by fields (value_of (codes "field") members) ≡ Some relation.left = first.left in
+      let b : index_by fields (value_of (codes "field") members) ≡ Some other.left = second.left in cc in
       let right : relation.right ≡ other.right =
-          let a : index_by fields (value_of (field_word keyword) members) ≡ Some relation.right = first.right in
-          let b : index_by fields (value_of (field_word keyword) members) ≡ Some other.right = second.right in cc in
+      let a : index_by fields (value_of (field_word keyword) members) ≡ Some relation.right = first.right in
+      let b : index_by fields (value_of (field_word keyword) members) ≡ Some other.right = second.right in cc in
       let one = some_of (kind_by fields (value_of (codes "field") members))
       (λ kind. GivesOffset (class_of_kind kind) (kind_by fields (value_of (field_word keyword) members))
       (value_of (codes "offset") members) (value_of (codes "offsetUnit") members) relation.offset) first.shift in

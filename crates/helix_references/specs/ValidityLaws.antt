@@ -27,7 +27,7 @@ use Rattle.helix_references.specs.Rules.{AreOne, AreUnlike, Breaks, IsFaulty, Is
 use Rattle.helix_references.specs.RefusalLaws.{broken_at, form_is, operand_value}
 use Rattle.helix_references.specs.RelationLaws.{NamedField, named_field, one_or_not, compare_for, offset_range}
 
-if_some : {A : Type 0} (o : Option A) (P : A → Type 0) (x : A) → o ≡ Some x → P x → IfSome o P
+pub if_some : {A : Type 0} (o : Option A) (P : A → Type 0) (x : A) → o ≡ Some x → P x → IfSome o P
 if_some o P x is holds = let Q : Option _ → Type 0 = λ q. IfSome q P in subst Q (sym is) holds
 
 module _ (fields : List Field) (members : List Member) (keyword : FieldKeyword) (relation : Relation)

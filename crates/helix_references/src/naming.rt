@@ -1,10 +1,16 @@
 //! Fields by their names.
 
-ghost use Rattle.std.specs.Prelude.{◌≡◌, ◌<◌, IfSome, bytes_eq, length, option_copied};
+ghost use Rattle.std.specs.Prelude.{◌≡◌, ◌<◌, IfSome, IsSome, bytes_eq, codes, length, option_copied};
+ghost use Rattle.helix_json.specs.declared.value.Json.TheViews as view;
+ghost use Rattle.helix_keywords.specs.Forms.{HasForm};
+ghost use Rattle.helix_keywords.specs.declared.form.Form.TheVariants as form;
+ghost use Rattle.helix_keywords.specs.declared.keyword.Keyword.{Keyword as Atomic};
+ghost use Rattle.helix_places.specs.Members.{value_of};
+ghost use Rattle.helix_references.specs.Rules.{IsUnbroken};
 ghost use Rattle.helix_references.specs.Naming.{index_by, index_in, index_named, kind_at};
 
-use helix_json::Json;
-use helix_places::as_text;
+use helix_json::{Json, Member};
+use helix_places::value_of;
 use helix_profile::Field;
 use helix_values::Kind;
 
@@ -47,6 +53,16 @@ pub fn index_by(fields: &[Field], value: Option<&Json>) -> Option<usize>
         Some(value) => index_in(fields, value),
         None => None,
     }
+}
+
+/// The index of the field of a constraint, which its member `field` names.
+pub fn field_of(fields: &[Field], members: &[Member]) -> Option<usize>
+    ensures value { result ≡ index_by fields.now (value_of (codes "field") members.now) }
+    ensures within { IfSome result (λ index. index < length fields.now) }
+    ensures complete { (keyword : Atomic) → HasForm members.now (form.Atom keyword)
+        → IsUnbroken fields.now (view.Object members.now) → IsSome result }
+{
+    index_by(fields, value_of(members, "field"))
 }
 
 /// The kind of the field with an index.

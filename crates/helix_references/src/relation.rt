@@ -36,11 +36,7 @@ pub fn read_relation(
     relation_in(fields, members, keyword)
 }
 
-fn relation_in(
-    fields: &[Field],
-    members: &[Member],
-    keyword: FieldKeyword,
-) -> Option<Relation>
+fn relation_in(fields: &[Field], members: &[Member], keyword: FieldKeyword) -> Option<Relation>
     requires { length fields.now < 2 ^ 32 }
     ensures gives { IfSome result (GivesRelation fields.now members.now keyword) }
     ensures refused { IfNone result (IsRefused fields.now members.now keyword) }
@@ -86,12 +82,7 @@ fn compare_of(keyword: FieldKeyword) -> Compare
 }
 
 /// The offset between fields of these kinds, by the values of `offset` and `offsetUnit`.
-fn offset_in(
-    left: Kind,
-    right: Kind,
-    offset: Option<&Json>,
-    unit: Option<&Json>,
-) -> Option<Offset>
+fn offset_in(left: Kind, right: Kind, offset: Option<&Json>, unit: Option<&Json>) -> Option<Offset>
     ensures some { IfSome result
         (GivesOffset (class_of_kind left) (Some right) (option_copied offset.entry) (option_copied unit.entry)) }
     ensures none { IfNone result

@@ -59,7 +59,14 @@ fn members_fault(
 {
     let form = form_of(members);
     for member in members {
-        if is_faulty(rule, fields, members, form, member.key.codes(), &member.value) {
+        if is_faulty(
+            rule,
+            fields,
+            members,
+            form,
+            member.key.codes(),
+            &member.value,
+        ) {
             let mut place = Place::top(alloc);
             place.step_out(Step::Member(member.key.copy(alloc)?))?;
             return Ok(Some(place));
@@ -83,7 +90,11 @@ fn is_faulty(
     match rule {
         ReferenceRule::Reference => names_field(form, key) && index_in(fields, value).is_none(),
         ReferenceRule::Class => {
-            is_misused(form, kind_at(fields, index_by(fields, value_of(members, "field"))), key)
+            is_misused(
+                form,
+                kind_at(fields, index_by(fields, value_of(members, "field"))),
+                key,
+            )
         }
         ReferenceRule::OneClass => {
             is_relation_key(form, key)

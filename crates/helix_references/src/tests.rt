@@ -91,7 +91,13 @@ fn given(alloc: Global, fields: &[Field], text: &str) -> Option<Relation> {
 fn relations_are_read(rt: HostRuntime) -> Result<(), Fail> {
     let fields = fields_of_each_kind(rt.alloc())?;
     let cases = [
-        (r#"{"field":"s","equalToField":"c"}"#, 3, Compare::Equal, 7, Offset::Plain(0)),
+        (
+            r#"{"field":"s","equalToField":"c"}"#,
+            3,
+            Compare::Equal,
+            7,
+            Offset::Plain(0),
+        ),
         (
             r#"{"field":"i","lessThanField":"d","offset":-1.5}"#,
             1,
@@ -135,7 +141,10 @@ fn relations_are_read(rt: HostRuntime) -> Result<(), Fail> {
             right,
             offset,
         };
-        assert!(rt; given(rt.alloc(), fields.as_slice(), text) == Some(want), "{text}");
+        assert!(rt;
+            given(rt.alloc(), fields.as_slice(), text) == Some(want),
+            "{text}"
+        );
     }
     Ok(())
 }

@@ -48,7 +48,12 @@ fn whole_of(text: &Text) -> Whole
         return Whole::Not;
     }
     let digits = digits_of(text.codes());
-    if !is_whole(digits.whole, digits.fraction, digits.lowers, digits.exponent) {
+    if !is_whole(
+        digits.whole,
+        digits.fraction,
+        digits.lowers,
+        digits.exponent,
+    ) {
         return Whole::Not;
     }
     match number_units(text) {

@@ -17,5 +17,6 @@ loop-member-preserved c = next_member c.args.rule c.args.fields.now c.args.membe
     c.if-is_faulty.false
 
 pub returns : goal.returns
-returns c = no_more_members c.args.rule c.args.fields.now c.args.members.now c.form_of-form.result c.form_of-form.ensures
+returns c = no_more_members c.args.rule c.args.fields.now c.args.members.now c.form_of-form.result
+    c.form_of-form.ensures
     c.loop-member.member-index c.loop-member-test.false c.loop-member.invariant
