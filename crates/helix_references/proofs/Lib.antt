@@ -1,0 +1,5 @@
+pub mod FieldNames
+pub mod FaultyMembers
+pub mod Endings
+pub mod NumberParts
+pub mod WholeNumbers

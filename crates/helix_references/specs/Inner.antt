@@ -1,0 +1,4 @@
+-- Words and lemmas that only this crate cites.
+pub mod Wholes
+pub mod Refusals
+pub mod OneNumber
