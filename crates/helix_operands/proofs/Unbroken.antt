@@ -1,0 +1,136 @@
+-- An operand that breaks no rule gives a test, unless it names a set file.
+use Rattle.std.proofs.Common.{◌≡◌, ◌≢◌, ◌⊎◌, inl, inr, ℕ, ◌<◌, ◌≤◌, ◌==◌, Bool, true, false, ◌&&◌, ◌||◌, not, nat_lt, List, [], ◌∷◌, length, Option, Some, None, IsSome, slice_get, refl, sym, ◌∙◌, ap, subst, arith}
+use Rattle.std.proofs.lemmas.Bool.Decides.{nat_tests}
+use Rattle.helix_json.specs.declared.value.Json.{Json}
+use Rattle.helix_json.specs.declared.value.Json as json
+use Rattle.helix_keywords.specs.declared.keyword.Keyword.{Keyword}
+use Rattle.helix_keywords.specs.declared.keyword.Keyword.TheVariants as keyword
+use Rattle.helix_operands.proofs.FirstMember.{member_named}
+use Rattle.helix_operands.proofs.MemberValues.{not_without_values}
+use Rattle.helix_operands.proofs.Reading.{none_given}
+use Rattle.helix_operands.specs.ForClass.{has_grids, is_for}
+use Rattle.helix_operands.specs.Rules.{BreaksOperand, IsFaulty, IsFaultyMember, IsUnbroken, has_bad_size, has_grid_type, has_operand_type}
+use Rattle.helix_operands.specs.Tests.{GivesTest, Makes, names_set_file}
+use Rattle.helix_operands.specs.Values.{AreValues, GivesLength, GivesLevel, GivesMembers, GivesPattern, GivesValue, Reads, has_type, max_members}
+use Rattle.helix_operands.specs.declared.rule.OperandRule.{OperandRule}
+use Rattle.helix_operands.specs.declared.rule.OperandRule.TheVariants as rule
+use Rattle.helix_places.specs.Members.{is_list, is_string, items_of}
+use Rattle.helix_places.specs.declared.place.Step.TheVariants as step
+use Rattle.helix_profile.specs.declared.test.Test.{Test}
+use Rattle.helix_profile.specs.declared.test.Test.TheVariants as test
+use Rattle.helix_values.specs.Class.{Class, booleans, numbers, strings, moments, class_of_kind}
+use Rattle.helix_values.specs.declared.cell.Cell.{Cell}
+use Rattle.helix_values.specs.declared.kind.Kind.{Kind}
+use Rattle.helix_values.specs.declared.kind.Kind.TheVariants as kinds
+
+not_false : (b : Bool) → ¬ (b ≡ false) → b ≡ true
+not_false true other = refl
+not_false false other = absurd (other refl)
+
+truth_of : (v : Json) → has_type booleans v ≡ true → (truth : Bool) × (v ≡ json.Bool truth)
+truth_of (json.Bool truth) is = (truth, refl)
+truth_of other is = absurd (cc)
+
+list_of : (list string : Bool) → (list || string) ≡ true → string ≡ false → list ≡ true
+list_of true string is other = refl
+list_of false string is other = absurd (cc)
+
+good_size : (size : ℕ) → ((size == 0) || nat_lt max_members size) ≢ true → (1 ≤ size) × (size ≤ max_members)
+good_size size fits = grind (arith, nat_tests)
+
+module _ (kind : Kind) (k : Keyword) (v : Json) (unbroken : IsUnbroken kind k v) where
+  not_faulty : (broken : OperandRule) → ¬ (IsFaulty broken kind k v)
+  not_faulty broken faulty = unbroken broken [] (inl (refl, faulty))
+
+  typed : has_operand_type (class_of_kind kind) k v ≡ true
+  typed = not_false (has_operand_type (class_of_kind kind) k v) (not_faulty rule.Type)
+
+-- the members of a list
+module _ (kind : Kind) (v : Json) (unbroken : IsUnbroken kind keyword.InSet v) (list : is_list v ≡ true) where
+  size_fits : (1 ≤ length (items_of v)) × (length (items_of v) ≤ max_members)
+  size_fits = good_size (length (items_of v))
+      (λ bad. not_faulty kind keyword.InSet v unbroken rule.Size
+      (ap (λ b. b && ((length (items_of v) == 0) || nat_lt max_members (length (items_of v)))) list ∙ bad))
+
+  sound_member : (broken : OperandRule) (i : ℕ) (item : Json) → slice_get (items_of v) i ≡ Some item
+      → ¬ (IsFaultyMember broken kind item)
+  sound_member broken i item at faulty = unbroken broken (step.Item i ∷ [])
+      (inr (member_named keyword.InSet (IsFaultyMember broken kind) v i (item, at, faulty)))
+
+  member_given : (i : ℕ) (item : Json) → slice_get (items_of v) i ≡ Some item
+      → ¬ ((c : Cell) → ¬ (GivesValue kind item c))
+  member_given i item at none =
+      let typed_so : has_type (class_of_kind kind) item ≡ true =
+      not_false (has_type (class_of_kind kind) item) (sound_member rule.Type i item at) in
+      sound_member rule.Value i item at (typed_so, none)
+
+  members_given : ((values : List Cell) → ¬ (GivesMembers kind v values)) → ⊥
+  members_given none = not_without_values kind (items_of v) member_given
+      (λ values are. none values (record { some = size_fits.0; few = size_fits.1; each = are }))
+
+grid_typed : (grids typed : Bool) → grids ≡ true → (not grids || typed) ≡ true → typed ≡ true
+grid_typed true true has is = refl
+grid_typed true false has is = absurd (cc)
+grid_typed false typed has is = absurd (cc)
+
+test_given : (kind : Kind) (k : Keyword) (v : Json) → is_for k (class_of_kind kind) ≡ true → IsUnbroken kind k v
+    → names_set_file k v ≡ false → ((t : Test) → ¬ (GivesTest kind k v t)) → ⊥
+test_given kind keyword.EqualTo v is unbroken file none =
+    not_faulty kind keyword.EqualTo v unbroken rule.Value
+    (typed kind keyword.EqualTo v unbroken, none_given (GivesValue kind v) test.EqualTo none)
+test_given kind keyword.InSet v is unbroken file none =
+    members_given kind v unbroken (list_of (is_list v) (is_string v) (typed kind keyword.InSet v unbroken) file)
+    (none_given (GivesMembers kind v) test.InSet none)
+test_given kind keyword.IsNull v is unbroken file none =
+    let truth : (wanted : Bool) × (v ≡ json.Bool wanted) = truth_of v (typed kind keyword.IsNull v unbroken) in
+    none_given (λ wanted. v ≡ json.Bool wanted) test.IsNull none truth.0 truth.1
+test_given kind keyword.MatchingRegex v is unbroken file none =
+    not_faulty kind keyword.MatchingRegex v unbroken rule.Pattern
+    (typed kind keyword.MatchingRegex v unbroken, none_given (GivesPattern v) test.Matching none)
+test_given kind keyword.ContainingRegex v is unbroken file none =
+    not_faulty kind keyword.ContainingRegex v unbroken rule.Pattern
+    (typed kind keyword.ContainingRegex v unbroken, none_given (GivesPattern v) test.Containing none)
+test_given kind keyword.OfLength v is unbroken file none =
+    not_faulty kind keyword.OfLength v unbroken rule.Length
+    (typed kind keyword.OfLength v unbroken, none_given (GivesLength v) test.OfLength none)
+test_given kind keyword.LongerThan v is unbroken file none =
+    not_faulty kind keyword.LongerThan v unbroken rule.Length
+    (typed kind keyword.LongerThan v unbroken, none_given (GivesLength v) test.LongerThan none)
+test_given kind keyword.ShorterThan v is unbroken file none =
+    not_faulty kind keyword.ShorterThan v unbroken rule.Length
+    (typed kind keyword.ShorterThan v unbroken, none_given (GivesLength v) test.ShorterThan none)
+test_given kind keyword.GreaterThan v is unbroken file none =
+    not_faulty kind keyword.GreaterThan v unbroken rule.Value
+    (typed kind keyword.GreaterThan v unbroken, none_given (GivesValue kinds.Decimal v) test.Above none)
+test_given kind keyword.GreaterThanOrEqualTo v is unbroken file none =
+    not_faulty kind keyword.GreaterThanOrEqualTo v unbroken rule.Value
+    (typed kind keyword.GreaterThanOrEqualTo v unbroken, none_given (GivesValue kinds.Decimal v) test.AtLeast none)
+test_given kind keyword.LessThan v is unbroken file none =
+    not_faulty kind keyword.LessThan v unbroken rule.Value
+    (typed kind keyword.LessThan v unbroken, none_given (GivesValue kinds.Decimal v) test.Below none)
+test_given kind keyword.LessThanOrEqualTo v is unbroken file none =
+    not_faulty kind keyword.LessThanOrEqualTo v unbroken rule.Value
+    (typed kind keyword.LessThanOrEqualTo v unbroken, none_given (GivesValue kinds.Decimal v) test.AtMost none)
+test_given kind keyword.After v is unbroken file none =
+    not_faulty kind keyword.After v unbroken rule.Value
+    (typed kind keyword.After v unbroken, none_given (GivesValue kinds.DateTime v) test.Above none)
+test_given kind keyword.AfterOrAt v is unbroken file none =
+    not_faulty kind keyword.AfterOrAt v unbroken rule.Value
+    (typed kind keyword.AfterOrAt v unbroken, none_given (GivesValue kinds.DateTime v) test.AtLeast none)
+test_given kind keyword.Before v is unbroken file none =
+    not_faulty kind keyword.Before v unbroken rule.Value
+    (typed kind keyword.Before v unbroken, none_given (GivesValue kinds.DateTime v) test.Below none)
+test_given kind keyword.BeforeOrAt v is unbroken file none =
+    not_faulty kind keyword.BeforeOrAt v unbroken rule.Value
+    (typed kind keyword.BeforeOrAt v unbroken, none_given (GivesValue kinds.DateTime v) test.AtMost none)
+test_given kind keyword.GranularTo v is unbroken file none =
+    let typed_so : has_grid_type (class_of_kind kind) v ≡ true =
+    grid_typed (has_grids (class_of_kind kind)) (has_grid_type (class_of_kind kind) v) is
+    (typed kind keyword.GranularTo v unbroken) in
+    not_faulty kind keyword.GranularTo v unbroken rule.Grid
+    (typed_so, none_given (GivesLevel (class_of_kind kind) v) test.OnGrid none)
+
+pub reading_finds : (kind : Kind) (k : Keyword) (v : Json) (found : Option Test) → is_for k (class_of_kind kind) ≡ true
+    → IsUnbroken kind k v → names_set_file k v ≡ false → Reads (GivesTest kind k v) found → IsSome found
+reading_finds kind k v (Some t) is unbroken file reads = refl
+reading_finds kind k v None is unbroken file reads = absurd (test_given kind k v is unbroken file reads)
