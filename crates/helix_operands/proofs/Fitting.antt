@@ -45,7 +45,8 @@ some_values kind [] values some are empty = omega arith
 some_values kind (item ∷ items) [] some are empty = are
 some_values kind (item ∷ items) (c ∷ values) some are empty = cc
 
-set_fits : (kind : Kind) (v : Json) (values : List Cell) → GivesMembers kind v values → IsTestFor kind (test.InSet values)
+set_fits : (kind : Kind) (v : Json) (values : List Cell) → GivesMembers kind v values
+    → IsTestFor kind (test.InSet values)
 set_fits kind v values gives = (
   some_values kind (items_of v) values gives.some gives.each,
   each_within kind (items_of v) values gives.each,
@@ -102,7 +103,8 @@ module _ (kind : Kind) (v : Json) where
 
 pub test_fits : (kind : Kind) (k : Keyword) (v : Json) (t : Test) → is_for k (class_of_kind kind) ≡ true
     → GivesTest kind k v t → IsTestFor kind t
-test_fits kind keyword.EqualTo v t is = of_made (GivesValue kind v) test.EqualTo (IsTestFor kind) (value_within kind v) t
+test_fits kind keyword.EqualTo v t is =
+    of_made (GivesValue kind v) test.EqualTo (IsTestFor kind) (value_within kind v) t
 test_fits kind keyword.InSet v t is = of_made (GivesMembers kind v) test.InSet (IsTestFor kind) (set_fits kind v) t
 test_fits kind keyword.IsNull v t is =
     of_made (λ wanted. v ≡ json.Bool wanted) test.IsNull (IsTestFor kind) (λ wanted gives. tt) t

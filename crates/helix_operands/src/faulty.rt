@@ -58,12 +58,7 @@ pub fn is_faulty_member(
     }
 }
 
-fn has_no_value(
-    alloc: Global,
-    kind: Kind,
-    keyword: Keyword,
-    operand: &Json,
-) -> Result<bool, Memory>
+fn has_no_value(alloc: Global, kind: Kind, keyword: Keyword, operand: &Json) -> Result<bool, Memory>
     ensures { IfOk result (λ answer. IsTrue answer ↔ HasNoValue kind keyword operand.now) }
 {
     match value_kind(kind, keyword) {

@@ -1,4 +1,4 @@
-//! The operands of atomic keywords: the test that one gives for a field of a kind, or the rule that it breaks and where.
+//! The operands of atomic keywords: the test that one gives for a field of a kind, or where it breaks which rule.
 //!
 //! ```
 //! let operand = read(alloc, b"[1, \"x\", 2.5]")?;

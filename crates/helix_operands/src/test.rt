@@ -40,7 +40,12 @@ pub fn read_test(
         Keyword::LongerThan => Ok(longer_test(operand)),
         Keyword::ShorterThan => Ok(shorter_test(operand)),
         Keyword::GreaterThan => value_test(alloc, Kind::Decimal, Compare::Above, operand),
-        Keyword::GreaterThanOrEqualTo => value_test(alloc, Kind::Decimal, Compare::AtLeast, operand),
+        Keyword::GreaterThanOrEqualTo => value_test(
+            alloc,
+            Kind::Decimal,
+            Compare::AtLeast,
+            operand,
+        ),
         Keyword::LessThan => value_test(alloc, Kind::Decimal, Compare::Below, operand),
         Keyword::LessThanOrEqualTo => value_test(alloc, Kind::Decimal, Compare::AtMost, operand),
         Keyword::After => value_test(alloc, Kind::DateTime, Compare::Above, operand),

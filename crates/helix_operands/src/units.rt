@@ -11,7 +11,13 @@ pub fn units_in(json: &Json) -> Option<i128>
     ensures none { IfNone result ((units : ℤ) → nat_abs units ≤ 10 ^ 35 → ¬ HasUnits json.now units) }
 {
     match json {
-        Json::Number(text) => { if is_number(text) { number_units(text) } else { None } }
+        Json::Number(text) => {
+            if is_number(text) {
+                number_units(text)
+            } else {
+                None
+            }
+        }
         Json::Null => None,
         Json::Bool(_) => None,
         Json::Str(_) => None,
