@@ -8,7 +8,7 @@ use Rattle.helix_json.specs.declared.value.Json.{Json}
 use Rattle.helix_json.specs.declared.value.Json as json
 use Rattle.helix_keywords.specs.declared.keyword.Keyword.{Keyword}
 use Rattle.helix_keywords.specs.declared.keyword.Keyword.TheVariants as keyword
-use Rattle.helix_operands.specs.ForClass.{is_for, is_moments, is_numbers, is_strings}
+use Rattle.helix_operands.specs.ForClass.{is_for, moment_class, number_class, string_class}
 use Rattle.helix_operands.specs.Tests.{GivesTest}
 use Rattle.helix_operands.specs.Values.{AreValues, GivesLength, GivesLevel, GivesMembers, GivesPattern, GivesValue, level_named, text_of}
 use Rattle.helix_operands.proofs.Reading.{of_made}
@@ -52,15 +52,15 @@ set_fits kind v values gives = (
   each_within kind (items_of v) values gives.each,
 )
 
-strings_are : (class : Class) → is_strings class ≡ true → class ≡ strings
+strings_are : (class : Class) → string_class class ≡ true → class ≡ strings
 strings_are strings is = refl
 strings_are other is = absurd (cc)
 
-bound_number : (class : Class) (c : Cell) → is_numbers class ≡ true → InUniverse kinds.Decimal c → IsBound class c
+bound_number : (class : Class) (c : Cell) → number_class class ≡ true → InUniverse kinds.Decimal c → IsBound class c
 bound_number numbers c is within = within
 bound_number other c is within = absurd (cc)
 
-bound_moment : (class : Class) (c : Cell) → is_moments class ≡ true → InUniverse kinds.DateTime c → IsBound class c
+bound_moment : (class : Class) (c : Cell) → moment_class class ≡ true → InUniverse kinds.DateTime c → IsBound class c
 bound_moment moments c is within = within
 bound_moment other c is within = absurd (cc)
 
@@ -90,19 +90,20 @@ level_fits other v level gives = absurd gives
 
 module _ (kind : Kind) (v : Json) where
   lengths_fit : (make : ℕ → Test) → ((n : ℕ) → (class_of_kind kind ≡ strings) × (n ≤ 1000) → IsTestFor kind (make n))
-      → is_strings (class_of_kind kind) ≡ true → (n : ℕ) → GivesLength v n → IsTestFor kind (make n)
+      → string_class (class_of_kind kind) ≡ true → (n : ℕ) → GivesLength v n → IsTestFor kind (make n)
   lengths_fit make fits is n gives = fits n (strings_are (class_of_kind kind) is, gives.0)
 
-  numbers_fit : is_numbers (class_of_kind kind) ≡ true → (c : Cell) → GivesValue kinds.Decimal v c
+  numbers_fit : number_class (class_of_kind kind) ≡ true → (c : Cell) → GivesValue kinds.Decimal v c
       → IsBound (class_of_kind kind) c
   numbers_fit is c gives = bound_number (class_of_kind kind) c is (value_within kinds.Decimal v c gives)
 
-  moments_fit : is_moments (class_of_kind kind) ≡ true → (c : Cell) → GivesValue kinds.DateTime v c
+  moments_fit : moment_class (class_of_kind kind) ≡ true → (c : Cell) → GivesValue kinds.DateTime v c
       → IsBound (class_of_kind kind) c
   moments_fit is c gives = bound_moment (class_of_kind kind) c is (value_within kinds.DateTime v c gives)
 
 pub test_fits : (kind : Kind) (k : Keyword) (v : Json) (t : Test) → is_for k (class_of_kind kind) ≡ true
     → GivesTest kind k v t → IsTestFor kind t
+unfolding is_for
 test_fits kind keyword.EqualTo v t is =
     of_made (GivesValue kind v) test.EqualTo (IsTestFor kind) (value_within kind v) t
 test_fits kind keyword.InSet v t is = of_made (GivesMembers kind v) test.InSet (IsTestFor kind) (set_fits kind v) t

@@ -8,7 +8,7 @@ use Rattle.helix_keywords.specs.declared.keyword.Keyword.TheVariants as keyword
 use Rattle.helix_operands.proofs.FirstMember.{member_named}
 use Rattle.helix_operands.proofs.MemberValues.{not_without_values}
 use Rattle.helix_operands.proofs.Reading.{none_given}
-use Rattle.helix_operands.specs.ForClass.{has_grids, is_for}
+use Rattle.helix_operands.specs.ForClass.{is_for, ladder_class}
 use Rattle.helix_operands.specs.Rules.{BreaksOperand, IsFaulty, IsFaultyMember, IsUnbroken, has_bad_size, has_grid_type, has_operand_type}
 use Rattle.helix_operands.specs.Tests.{GivesTest, Makes, names_set_file}
 use Rattle.helix_operands.specs.Values.{AreValues, GivesLength, GivesLevel, GivesMembers, GivesPattern, GivesValue, Reads, has_type, max_members}
@@ -75,6 +75,7 @@ grid_typed false typed has is = absurd (cc)
 
 test_given : (kind : Kind) (k : Keyword) (v : Json) → is_for k (class_of_kind kind) ≡ true → IsUnbroken kind k v
     → names_set_file k v ≡ false → ((t : Test) → ¬ (GivesTest kind k v t)) → ⊥
+unfolding is_for
 test_given kind keyword.EqualTo v is unbroken file none =
     not_faulty kind keyword.EqualTo v unbroken rule.Value
     (typed kind keyword.EqualTo v unbroken, none_given (GivesValue kind v) test.EqualTo none)
@@ -125,7 +126,7 @@ test_given kind keyword.BeforeOrAt v is unbroken file none =
     (typed kind keyword.BeforeOrAt v unbroken, none_given (GivesValue kinds.DateTime v) test.AtMost none)
 test_given kind keyword.GranularTo v is unbroken file none =
     let typed_so : has_grid_type (class_of_kind kind) v ≡ true =
-    grid_typed (has_grids (class_of_kind kind)) (has_grid_type (class_of_kind kind) v) is
+    grid_typed (ladder_class (class_of_kind kind)) (has_grid_type (class_of_kind kind) v) is
     (typed kind keyword.GranularTo v unbroken) in
     not_faulty kind keyword.GranularTo v unbroken rule.Grid
     (typed_so, none_given (GivesLevel (class_of_kind kind) v) test.OnGrid none)

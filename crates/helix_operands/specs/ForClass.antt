@@ -2,42 +2,45 @@
 use Rattle.std.specs.Prelude.{Bool, true, false}
 use Rattle.helix_keywords.specs.declared.keyword.Keyword.{Keyword}
 use Rattle.helix_keywords.specs.declared.keyword.Keyword.TheVariants as keyword
-use Rattle.helix_values.specs.Class.{Class, booleans, numbers, strings, moments}
+use Rattle.helix_values.specs.Class.{Class, numbers, strings, moments}
 
-abbrev pub is_numbers : Class → Bool
-is_numbers numbers = true
-is_numbers other = false
+-- classes: all of them, one, or the two that are ordered along a ladder of grids
+abbrev pub any_class : Class → Bool
+any_class class = true
 
-abbrev pub is_strings : Class → Bool
-is_strings strings = true
-is_strings other = false
+abbrev pub string_class : Class → Bool
+string_class strings = true
+string_class other = false
 
-abbrev pub is_moments : Class → Bool
-is_moments moments = true
-is_moments other = false
+abbrev pub number_class : Class → Bool
+number_class numbers = true
+number_class other = false
 
--- the classes whose values lie on ladders of grids
-abbrev pub has_grids : Class → Bool
-has_grids numbers = true
-has_grids moments = true
-has_grids other = false
+abbrev pub moment_class : Class → Bool
+moment_class moments = true
+moment_class other = false
 
--- the keyword is for the class
-abbrev pub is_for : Keyword → Class → Bool
-is_for keyword.EqualTo class = true
-is_for keyword.InSet class = true
-is_for keyword.IsNull class = true
-is_for keyword.MatchingRegex class = is_strings class
-is_for keyword.ContainingRegex class = is_strings class
-is_for keyword.OfLength class = is_strings class
-is_for keyword.LongerThan class = is_strings class
-is_for keyword.ShorterThan class = is_strings class
-is_for keyword.GreaterThan class = is_numbers class
-is_for keyword.GreaterThanOrEqualTo class = is_numbers class
-is_for keyword.LessThan class = is_numbers class
-is_for keyword.LessThanOrEqualTo class = is_numbers class
-is_for keyword.After class = is_moments class
-is_for keyword.AfterOrAt class = is_moments class
-is_for keyword.Before class = is_moments class
-is_for keyword.BeforeOrAt class = is_moments class
-is_for keyword.GranularTo class = has_grids class
+abbrev pub ladder_class : Class → Bool
+ladder_class numbers = true
+ladder_class moments = true
+ladder_class other = false
+
+-- the keyword is for fields of the class
+unfoldable pub is_for : Keyword → Class → Bool
+is_for keyword.EqualTo = any_class
+is_for keyword.InSet = any_class
+is_for keyword.IsNull = any_class
+is_for keyword.MatchingRegex = string_class
+is_for keyword.ContainingRegex = string_class
+is_for keyword.OfLength = string_class
+is_for keyword.LongerThan = string_class
+is_for keyword.ShorterThan = string_class
+is_for keyword.GreaterThan = number_class
+is_for keyword.GreaterThanOrEqualTo = number_class
+is_for keyword.LessThan = number_class
+is_for keyword.LessThanOrEqualTo = number_class
+is_for keyword.After = moment_class
+is_for keyword.AfterOrAt = moment_class
+is_for keyword.Before = moment_class
+is_for keyword.BeforeOrAt = moment_class
+is_for keyword.GranularTo = ladder_class

@@ -3,7 +3,7 @@ use Rattle.std.specs.Prelude.{◌≡◌, ◌⊎◌, ℕ, Bool, true, false, ◌=
 use Rattle.helix_json.specs.declared.value.Json.{Json}
 use Rattle.helix_keywords.specs.declared.keyword.Keyword.{Keyword}
 use Rattle.helix_keywords.specs.declared.keyword.Keyword.TheVariants as keyword
-use Rattle.helix_operands.specs.ForClass.{has_grids}
+use Rattle.helix_operands.specs.ForClass.{ladder_class}
 use Rattle.helix_operands.specs.Values.{has_type, GivesValue, GivesLevel, GivesLength, GivesPattern, max_members}
 use Rattle.helix_operands.specs.declared.rule.OperandRule.{OperandRule}
 use Rattle.helix_operands.specs.declared.rule.OperandRule.TheVariants as rule
@@ -38,7 +38,7 @@ has_operand_type class keyword.After v = has_type moments v
 has_operand_type class keyword.AfterOrAt v = has_type moments v
 has_operand_type class keyword.Before v = has_type moments v
 has_operand_type class keyword.BeforeOrAt v = has_type moments v
-has_operand_type class keyword.GranularTo v = not (has_grids class) || has_grid_type class v
+has_operand_type class keyword.GranularTo v = not (ladder_class class) || has_grid_type class v
 
 -- S11: the operand has another JSON type
 abbrev pub HasWrongType : Kind → Keyword → Json → Type 0

@@ -1,7 +1,7 @@
 //! JSON types of operands.
 
 ghost use Rattle.std.specs.Prelude.{◌≡◌};
-ghost use Rattle.helix_operands.specs.ForClass.{has_grids};
+ghost use Rattle.helix_operands.specs.ForClass.{ladder_class};
 ghost use Rattle.helix_operands.specs.Rules.{has_grid_type, has_operand_type};
 ghost use Rattle.helix_operands.specs.Values.{has_type};
 ghost use Rattle.helix_places.specs.Members.{is_list, is_string};
@@ -71,8 +71,8 @@ pub fn has_type(kind: Kind, json: &Json) -> bool
 }
 
 /// Whether a kind's values lie on a ladder of grids.
-fn has_grids(kind: Kind) -> bool
-    ensures { result ≡ has_grids (class_of_kind kind) }
+fn has_ladder(kind: Kind) -> bool
+    ensures { result ≡ ladder_class (class_of_kind kind) }
 {
     match kind {
         Kind::Boolean => false,
@@ -115,6 +115,6 @@ pub fn has_operand_type(kind: Kind, keyword: Keyword, operand: &Json) -> bool
         Keyword::After | Keyword::AfterOrAt | Keyword::Before | Keyword::BeforeOrAt => is_string(
             operand,
         ),
-        Keyword::GranularTo => !has_grids(kind) || has_grid_type(kind, operand),
+        Keyword::GranularTo => !has_ladder(kind) || has_grid_type(kind, operand),
     }
 }
