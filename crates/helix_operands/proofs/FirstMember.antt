@@ -10,7 +10,7 @@ use Rattle.helix_operands.specs.Inner.Members.{HoldsAt, IsFirstIndex, members_un
 use Rattle.helix_operands.specs.Rules.{BreaksOperand, InMembers, IsFaulty, IsFaultyMember}
 use Rattle.helix_operands.specs.declared.rule.OperandRule.{OperandRule}
 use Rattle.helix_places.specs.Members.{items_of}
-use Rattle.helix_places.specs.PlaceLaws.{and_some, finds_top_at}
+use Rattle.helix_operands.specs.UnbrokenLaws.{member_named}
 use Rattle.helix_places.specs.Places.{Finds, Here, InItem, Precedes}
 use Rattle.helix_places.specs.declared.place.Step.{Step}
 use Rattle.helix_places.specs.declared.place.Step.TheVariants as step
@@ -31,19 +31,7 @@ named_member keyword.InSet P v (step.Item index ∷ place) h =
     (index, ap (λ p. step.Item index ∷ p) there.2.0, (there.0, there.1, there.2.1))
 named_member other P v place h = absurd h
 
--- and the other way round
-pub member_named : (k : Keyword) (P : Json → Type 0) (v : Json) (index : ℕ) → HoldsAt P (members_under k v) index
-    → InMembers k P v (step.Item index ∷ [])
-member_named keyword.InSet P v index h =
-    and_some (slice_get (items_of v) index) (λ w. Here P w []) h.0 h.1 (refl, h.2)
-member_named other P v index h = absurd (let none : None ≡ Some h.0 = h.1 in cc)
-
 module _ (rule : OperandRule) (kind : Kind) (k : Keyword) (v : Json) where
-  pub finds_operand : (answer : Bool) → (IsTrue answer ↔ IsFaulty rule kind k v) → answer ≡ true → (place : List Step)
-      → place ≡ [] → Finds v (BreaksOperand rule kind k v) (Some place)
-  finds_operand answer says is place here = finds_top_at v (BreaksOperand rule kind k v) place here
-      (inl (refl, says.0 is))
-
   module _ (answer : Bool) (says : IsTrue answer ↔ IsFaulty rule kind k v) (sound : answer ≡ false) where
     not_here : ¬ (IsFaulty rule kind k v)
     not_here faulty = let yes_it_is : answer ≡ true = says.1 faulty in cc
@@ -91,9 +79,6 @@ module _ (P : Json → Type 0) (items : List Json) (i : ℕ) where
     where
       at : slice_get items i ≡ Some item
       at = slice_get_read items (length items) i item refl within read
-
-      pub found_first : answer ≡ true → IsFirstIndex P items (Some i)
-      found_first is = ((item, at, says.0 is), none)
 
       pub next_sound : answer ≡ false → NoneHolds P items (i + 1)
       next_sound is k less holds = ⊎_elim (λ before. none k before holds)

@@ -4,7 +4,7 @@ use Rattle.std.specs.Option.{IsSomeAnd}
 use Rattle.std.proofs.lemmas.Bool.{ne_eqb}
 use Rattle.helix_base.specs.declared.memory.Memory.{Memory}
 use Rattle.helix_json.specs.declared.value.Json.{Json}
-use Rattle.helix_operands.proofs.Unique.{one_units}
+use Rattle.helix_operands.specs.UniqueLaws.{one_units}
 use Rattle.helix_keywords.specs.declared.keyword.Keyword.{Keyword}
 use Rattle.helix_operands.specs.Rules.{IsFaulty, is_bad_list}
 use Rattle.helix_operands.specs.Tests.{GivesTest}

@@ -25,11 +25,6 @@ module _ (kind : Kind) where
       let P : List Json → Type 0 = λ l. AreValues kind l (values ++ value ∷ []) in
       subst P (sym more) (one_more (take i items) values item value are gives)
 
-  pub all_values : (items : List Json) (values : List Cell) (i : ℕ) → length items ≤ i
-      → AreValues kind (take i items) values → AreValues kind items values
-  all_values items values i all are =
-      let P : List Json → Type 0 = λ l. AreValues kind l values in subst P (take_all i items all) are
-
   value_at : (items : List Json) (values : List Cell) (i : ℕ) (item : Json) → AreValues kind items values
       → slice_get items i ≡ Some item → (value : Cell) × GivesValue kind item value
   value_at [] values i item are at = absurd (let none : None ≡ Some item = at in cc)
@@ -44,11 +39,3 @@ module _ (kind : Kind) where
       let there : (value : Cell) × GivesValue kind item value =
       value_at items values i item are (slice_get_read items (length items) i item refl within read) in
       none there.0 there.1
-
-  -- where it is not so that an item gives no value, it is not so that there are no values
-  pub not_without_values : (items : List Json)
-      → ((i : ℕ) (item : Json) → slice_get items i ≡ Some item → ¬ ((value : Cell) → ¬ (GivesValue kind item value)))
-      → ¬ ((values : List Cell) → ¬ (AreValues kind items values))
-  not_without_values [] each none = none [] tt
-  not_without_values (item ∷ items) each none = each 0 item refl (λ value gives.
-      not_without_values items (λ i other at. each (suc i) other at) (λ values are. none (value ∷ values) (gives, are)))

@@ -2,9 +2,9 @@
 //!
 //! ```
 //! let operand = read(alloc, b"[1, \"x\", 2.5]")?;
-//! operand_fault(alloc, OperandRule::Type, Kind::Integer, Keyword::InSet, &operand)?     // Some(1): "x" is a string
-//! operand_fault(alloc, OperandRule::Value, Kind::Integer, Keyword::InSet, &operand)?    // Some(2): 2.5 is not whole
-//! read_test(alloc, Kind::Integer, Keyword::GreaterThan, &bound)?                        // Some(Test::Above(2.5))
+//! operand_fault(alloc, OperandRule::Type, Kind::Integer, Keyword::InSet, &operand)?     // at 1: "x" is a string
+//! operand_fault(alloc, OperandRule::Value, Kind::Integer, Keyword::InSet, &operand)?    // at 2: 2.5 is not whole
+//! read_test(alloc, Kind::Integer, Keyword::GreaterThan, &bound)?                        // Test::Above, of 2.5
 //! ```
 //!
 //! [`operand_fault`] gives the first place where one of the rules S11 to S16 is broken ([`OperandRule`]): the operand
@@ -14,7 +14,8 @@
 //!
 //! No clause says what a call costs: a pass over the operand, with a copy of each text of a list.
 //!
-//! What operands give is in `specs/Values.antt` and `specs/Tests.antt`, the rules in `specs/Rules.antt`.
+//! What operands give is in `specs/Values.antt` and `specs/Tests.antt`, the rules in `specs/Rules.antt`. Lemmas for the
+//! crates above are in `specs/UniqueLaws.antt`, `specs/FitLaws.antt` and `specs/UnbrokenLaws.antt`.
 #![tactic(auto)]
 
 mod fault;

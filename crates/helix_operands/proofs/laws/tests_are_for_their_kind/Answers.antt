@@ -1,4 +1,4 @@
-use Rattle.helix_operands.proofs.Fitting.{test_fits}
+use Rattle.helix_operands.specs.FitLaws.{test_fits}
 use Rattle.helix_operands.proofs.laws.tests_are_for_their_kind.Goals as goal
 
 pub returns : goal.returns

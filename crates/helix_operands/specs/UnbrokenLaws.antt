@@ -1,20 +1,21 @@
 -- An operand that breaks no rule gives a test, unless it names a set file.
-use Rattle.std.proofs.Common.{◌≡◌, ◌≢◌, ◌⊎◌, inl, inr, ℕ, ◌<◌, ◌≤◌, ◌==◌, Bool, true, false, ◌&&◌, ◌||◌, not, nat_lt, List, [], ◌∷◌, length, Option, Some, None, IsSome, slice_get, refl, sym, ◌∙◌, ap, subst, arith}
+use Rattle.std.proofs.Common.{◌≡◌, ◌≢◌, ◌⊎◌, inl, inr, ℕ, zero, suc, ◌<◌, ◌≤◌, ◌==◌, Bool, true, false, ◌&&◌, ◌||◌, not, nat_lt, List, [], ◌∷◌, length, Option, Some, None, IsSome, slice_get, refl, sym, ◌∙◌, ap, subst, arith}
 use Rattle.std.proofs.lemmas.Bool.Decides.{nat_tests}
 use Rattle.helix_json.specs.declared.value.Json.{Json}
 use Rattle.helix_json.specs.declared.value.Json as json
 use Rattle.helix_keywords.specs.declared.keyword.Keyword.{Keyword}
 use Rattle.helix_keywords.specs.declared.keyword.Keyword.TheVariants as keyword
-use Rattle.helix_operands.proofs.FirstMember.{member_named}
-use Rattle.helix_operands.proofs.MemberValues.{not_without_values}
-use Rattle.helix_operands.proofs.Reading.{none_given}
+use Rattle.helix_operands.specs.Inner.Members.{HoldsAt, members_under}
+use Rattle.helix_operands.specs.MadeLaws.{none_given}
 use Rattle.helix_operands.specs.ForClass.{is_for, ladder_class}
-use Rattle.helix_operands.specs.Rules.{BreaksOperand, IsFaulty, IsFaultyMember, IsUnbroken, has_bad_size, has_grid_type, has_operand_type}
+use Rattle.helix_operands.specs.Rules.{BreaksOperand, IsFaulty, IsFaultyMember, InMembers, IsUnbroken, has_bad_size, has_grid_type, has_operand_type}
 use Rattle.helix_operands.specs.Tests.{GivesTest, Makes, names_set_file}
 use Rattle.helix_operands.specs.Values.{AreValues, GivesLength, GivesLevel, GivesMembers, GivesPattern, GivesValue, Reads, has_type, max_members}
 use Rattle.helix_operands.specs.declared.rule.OperandRule.{OperandRule}
 use Rattle.helix_operands.specs.declared.rule.OperandRule.TheVariants as rule
 use Rattle.helix_places.specs.Members.{is_list, is_string, items_of}
+use Rattle.helix_places.specs.PlaceLaws.{and_some}
+use Rattle.helix_places.specs.Places.{Here}
 use Rattle.helix_places.specs.declared.place.Step.TheVariants as step
 use Rattle.helix_profile.specs.declared.test.Test.{Test}
 use Rattle.helix_profile.specs.declared.test.Test.TheVariants as test
@@ -22,6 +23,21 @@ use Rattle.helix_values.specs.Class.{Class, booleans, numbers, strings, moments,
 use Rattle.helix_values.specs.declared.cell.Cell.{Cell}
 use Rattle.helix_values.specs.declared.kind.Kind.{Kind}
 use Rattle.helix_values.specs.declared.kind.Kind.TheVariants as kinds
+
+-- the place of a member
+pub member_named : (k : Keyword) (P : Json → Type 0) (v : Json) (index : ℕ) → HoldsAt P (members_under k v) index
+    → InMembers k P v (step.Item index ∷ [])
+member_named keyword.InSet P v index h =
+    and_some (slice_get (items_of v) index) (λ w. Here P w []) h.0 h.1 (refl, h.2)
+member_named other P v index h = absurd (let none : None ≡ Some h.0 = h.1 in cc)
+
+-- where it is not so that an item gives no value, it is not so that there are no values
+not_without_values : (kind : Kind) (items : List Json)
+    → ((i : ℕ) (item : Json) → slice_get items i ≡ Some item → ¬ ((value : Cell) → ¬ (GivesValue kind item value)))
+    → ¬ ((values : List Cell) → ¬ (AreValues kind items values))
+not_without_values kind [] each none = none [] tt
+not_without_values kind (item ∷ items) each none = each 0 item refl (λ value gives.
+    not_without_values kind items (λ i other at. each (suc i) other at) (λ values are. none (value ∷ values) (gives, are)))
 
 not_false : (b : Bool) → ¬ (b ≡ false) → b ≡ true
 not_false true other = refl

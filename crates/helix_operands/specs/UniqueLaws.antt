@@ -1,4 +1,4 @@
--- A JSON value gives at most one value, level, length and expression.
+-- A JSON value gives at most one value, level, length and expression, and an operand at most one test.
 use Rattle.std.proofs.Common.{◌≡◌, ℕ, zero, suc, ◌*◌, ◌^◌, ℤ, pos, Bool, List, [], ◌∷◌, Option, Some, None, refl, sym, ◌∙◌, ap, arith}
 use Rattle.std.specs.Option.{IsSomeAnd}
 use Rattle.std.proofs.Math.Nat.{pow-suc, pow-zero}
@@ -10,7 +10,7 @@ use Rattle.helix_keywords.specs.declared.keyword.Keyword.{Keyword}
 use Rattle.helix_keywords.specs.declared.keyword.Keyword.TheVariants as keyword
 use Rattle.helix_operands.specs.Tests.{GivesTest}
 use Rattle.helix_operands.specs.Values.{AreValues, GivesLength, GivesLevel, GivesMembers, GivesPattern, GivesValue, HasUnits, level_named, text_of}
-use Rattle.helix_operands.proofs.Reading.{one_made}
+use Rattle.helix_operands.specs.MadeLaws.{one_made}
 use Rattle.helix_places.specs.Members.{items_of}
 use Rattle.helix_profile.specs.declared.test.Test.{Test}
 use Rattle.helix_profile.specs.declared.test.Test.TheVariants as test

@@ -11,7 +11,7 @@ use Rattle.helix_keywords.specs.declared.keyword.Keyword.TheVariants as keyword
 use Rattle.helix_operands.specs.ForClass.{is_for, moment_class, number_class, string_class}
 use Rattle.helix_operands.specs.Tests.{GivesTest}
 use Rattle.helix_operands.specs.Values.{AreValues, GivesLength, GivesLevel, GivesMembers, GivesPattern, GivesValue, level_named, text_of}
-use Rattle.helix_operands.proofs.Reading.{of_made}
+use Rattle.helix_operands.specs.MadeLaws.{of_made}
 use Rattle.helix_places.specs.Members.{items_of}
 use Rattle.helix_profile.specs.Validity.{IsBound, IsLevel, IsTestFor}
 use Rattle.helix_profile.specs.declared.test.Test.{Test}
