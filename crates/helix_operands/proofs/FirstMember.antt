@@ -11,7 +11,7 @@ use Rattle.helix_operands.specs.Rules.{BreaksOperand, InMembers, IsFaulty, IsFau
 use Rattle.helix_operands.specs.declared.rule.OperandRule.{OperandRule}
 use Rattle.helix_places.specs.Members.{items_of}
 use Rattle.helix_operands.specs.UnbrokenLaws.{member_named}
-use Rattle.helix_places.specs.Places.{Finds, Here, InItem, Precedes}
+use Rattle.helix_places.specs.Places.{Finds, Here, Precedes}
 use Rattle.helix_places.specs.declared.place.Step.{Step}
 use Rattle.helix_places.specs.declared.place.Step.TheVariants as step
 use Rattle.helix_values.specs.declared.kind.Kind.{Kind}

@@ -1,5 +1,5 @@
 -- An operand that breaks no rule gives a test, unless it names a set file.
-use Rattle.std.proofs.Common.{◌≡◌, ◌≢◌, ◌⊎◌, inl, inr, ℕ, zero, suc, ◌<◌, ◌≤◌, ◌==◌, Bool, true, false, ◌&&◌, ◌||◌, not, nat_lt, List, [], ◌∷◌, length, Option, Some, None, IsSome, slice_get, refl, sym, ◌∙◌, ap, subst, arith}
+use Rattle.std.proofs.Common.{◌≡◌, ◌≢◌, inl, inr, ℕ, suc, ◌≤◌, ◌==◌, Bool, true, false, ◌&&◌, ◌||◌, not, nat_lt, List, [], ◌∷◌, length, Option, Some, None, IsSome, slice_get, refl, ◌∙◌, ap, arith}
 use Rattle.std.proofs.lemmas.Bool.Decides.{nat_tests}
 use Rattle.helix_json.specs.declared.value.Json.{Json}
 use Rattle.helix_json.specs.declared.value.Json as json
@@ -8,7 +8,7 @@ use Rattle.helix_keywords.specs.declared.keyword.Keyword.TheVariants as keyword
 use Rattle.helix_operands.specs.Inner.Members.{HoldsAt, members_under}
 use Rattle.helix_operands.specs.MadeLaws.{none_given}
 use Rattle.helix_operands.specs.ForClass.{is_for, ladder_class}
-use Rattle.helix_operands.specs.Rules.{BreaksOperand, IsFaulty, IsFaultyMember, InMembers, IsUnbroken, has_bad_size, has_grid_type, has_operand_type}
+use Rattle.helix_operands.specs.Rules.{IsFaulty, IsFaultyMember, InMembers, IsUnbroken, Lacks, has_grid_type, has_operand_type}
 use Rattle.helix_operands.specs.Tests.{GivesTest, Makes, names_set_file}
 use Rattle.helix_operands.specs.Values.{AreValues, GivesLength, GivesLevel, GivesMembers, GivesPattern, GivesValue, Reads, has_type, max_members}
 use Rattle.helix_operands.specs.declared.rule.OperandRule.{OperandRule}
@@ -19,7 +19,7 @@ use Rattle.helix_places.specs.Places.{Here}
 use Rattle.helix_places.specs.declared.place.Step.TheVariants as step
 use Rattle.helix_profile.specs.declared.test.Test.{Test}
 use Rattle.helix_profile.specs.declared.test.Test.TheVariants as test
-use Rattle.helix_values.specs.Class.{Class, booleans, numbers, strings, moments, class_of_kind}
+use Rattle.helix_values.specs.Class.{booleans, class_of_kind}
 use Rattle.helix_values.specs.declared.cell.Cell.{Cell}
 use Rattle.helix_values.specs.declared.kind.Kind.{Kind}
 use Rattle.helix_values.specs.declared.kind.Kind.TheVariants as kinds
@@ -37,7 +37,8 @@ not_without_values : (kind : Kind) (items : List Json)
     → ¬ ((values : List Cell) → ¬ (AreValues kind items values))
 not_without_values kind [] each none = none [] tt
 not_without_values kind (item ∷ items) each none = each 0 item refl (λ value gives.
-    not_without_values kind items (λ i other at. each (suc i) other at) (λ values are. none (value ∷ values) (gives, are)))
+    not_without_values kind items (λ i other at. each (suc i) other at)
+    (λ values are. none (value ∷ values) (gives, are)))
 
 not_false : (b : Bool) → ¬ (b ≡ false) → b ≡ true
 not_false true other = refl
@@ -89,12 +90,18 @@ grid_typed true true has is = refl
 grid_typed true false has is = absurd (cc)
 grid_typed false typed has is = absurd (cc)
 
+-- where nothing is made, the rule is broken by what has the type and gives nothing
+given_by : {X : Type 0} (kind : Kind) (k : Keyword) (v : Json) (broken : OperandRule) (Given : X → Type 0)
+    (make : X → Test) → (Lacks (has_operand_type (class_of_kind kind) k v) Given → IsFaulty broken kind k v)
+    → IsUnbroken kind k v → ((t : Test) → ¬ (Makes Given make t)) → ⊥
+given_by kind k v broken Given make faulty unbroken none =
+    not_faulty kind k v unbroken broken (faulty (typed kind k v unbroken, none_given Given make none))
+
 test_given : (kind : Kind) (k : Keyword) (v : Json) → is_for k (class_of_kind kind) ≡ true → IsUnbroken kind k v
     → names_set_file k v ≡ false → ((t : Test) → ¬ (GivesTest kind k v t)) → ⊥
 unfolding is_for
 test_given kind keyword.EqualTo v is unbroken file none =
-    not_faulty kind keyword.EqualTo v unbroken rule.Value
-    (typed kind keyword.EqualTo v unbroken, none_given (GivesValue kind v) test.EqualTo none)
+    given_by kind keyword.EqualTo v rule.Value (GivesValue kind v) test.EqualTo (λ lacks. lacks) unbroken none
 test_given kind keyword.InSet v is unbroken file none =
     members_given kind v unbroken (list_of (is_list v) (is_string v) (typed kind keyword.InSet v unbroken) file)
     (none_given (GivesMembers kind v) test.InSet none)
@@ -102,44 +109,31 @@ test_given kind keyword.IsNull v is unbroken file none =
     let truth : (wanted : Bool) × (v ≡ json.Bool wanted) = truth_of v (typed kind keyword.IsNull v unbroken) in
     none_given (λ wanted. v ≡ json.Bool wanted) test.IsNull none truth.0 truth.1
 test_given kind keyword.MatchingRegex v is unbroken file none =
-    not_faulty kind keyword.MatchingRegex v unbroken rule.Pattern
-    (typed kind keyword.MatchingRegex v unbroken, none_given (GivesPattern v) test.Matching none)
+    given_by kind keyword.MatchingRegex v rule.Pattern (GivesPattern v) test.Matching (λ lacks. lacks) unbroken none
 test_given kind keyword.ContainingRegex v is unbroken file none =
-    not_faulty kind keyword.ContainingRegex v unbroken rule.Pattern
-    (typed kind keyword.ContainingRegex v unbroken, none_given (GivesPattern v) test.Containing none)
+    given_by kind keyword.ContainingRegex v rule.Pattern (GivesPattern v) test.Containing (λ lacks. lacks) unbroken none
 test_given kind keyword.OfLength v is unbroken file none =
-    not_faulty kind keyword.OfLength v unbroken rule.Length
-    (typed kind keyword.OfLength v unbroken, none_given (GivesLength v) test.OfLength none)
+    given_by kind keyword.OfLength v rule.Length (GivesLength v) test.OfLength (λ lacks. lacks) unbroken none
 test_given kind keyword.LongerThan v is unbroken file none =
-    not_faulty kind keyword.LongerThan v unbroken rule.Length
-    (typed kind keyword.LongerThan v unbroken, none_given (GivesLength v) test.LongerThan none)
+    given_by kind keyword.LongerThan v rule.Length (GivesLength v) test.LongerThan (λ lacks. lacks) unbroken none
 test_given kind keyword.ShorterThan v is unbroken file none =
-    not_faulty kind keyword.ShorterThan v unbroken rule.Length
-    (typed kind keyword.ShorterThan v unbroken, none_given (GivesLength v) test.ShorterThan none)
+    given_by kind keyword.ShorterThan v rule.Length (GivesLength v) test.ShorterThan (λ lacks. lacks) unbroken none
 test_given kind keyword.GreaterThan v is unbroken file none =
-    not_faulty kind keyword.GreaterThan v unbroken rule.Value
-    (typed kind keyword.GreaterThan v unbroken, none_given (GivesValue kinds.Decimal v) test.Above none)
+    given_by kind keyword.GreaterThan v rule.Value (GivesValue kinds.Decimal v) test.Above (λ lacks. lacks) unbroken none
 test_given kind keyword.GreaterThanOrEqualTo v is unbroken file none =
-    not_faulty kind keyword.GreaterThanOrEqualTo v unbroken rule.Value
-    (typed kind keyword.GreaterThanOrEqualTo v unbroken, none_given (GivesValue kinds.Decimal v) test.AtLeast none)
+    given_by kind keyword.GreaterThanOrEqualTo v rule.Value (GivesValue kinds.Decimal v) test.AtLeast (λ lacks. lacks) unbroken none
 test_given kind keyword.LessThan v is unbroken file none =
-    not_faulty kind keyword.LessThan v unbroken rule.Value
-    (typed kind keyword.LessThan v unbroken, none_given (GivesValue kinds.Decimal v) test.Below none)
+    given_by kind keyword.LessThan v rule.Value (GivesValue kinds.Decimal v) test.Below (λ lacks. lacks) unbroken none
 test_given kind keyword.LessThanOrEqualTo v is unbroken file none =
-    not_faulty kind keyword.LessThanOrEqualTo v unbroken rule.Value
-    (typed kind keyword.LessThanOrEqualTo v unbroken, none_given (GivesValue kinds.Decimal v) test.AtMost none)
+    given_by kind keyword.LessThanOrEqualTo v rule.Value (GivesValue kinds.Decimal v) test.AtMost (λ lacks. lacks) unbroken none
 test_given kind keyword.After v is unbroken file none =
-    not_faulty kind keyword.After v unbroken rule.Value
-    (typed kind keyword.After v unbroken, none_given (GivesValue kinds.DateTime v) test.Above none)
+    given_by kind keyword.After v rule.Value (GivesValue kinds.DateTime v) test.Above (λ lacks. lacks) unbroken none
 test_given kind keyword.AfterOrAt v is unbroken file none =
-    not_faulty kind keyword.AfterOrAt v unbroken rule.Value
-    (typed kind keyword.AfterOrAt v unbroken, none_given (GivesValue kinds.DateTime v) test.AtLeast none)
+    given_by kind keyword.AfterOrAt v rule.Value (GivesValue kinds.DateTime v) test.AtLeast (λ lacks. lacks) unbroken none
 test_given kind keyword.Before v is unbroken file none =
-    not_faulty kind keyword.Before v unbroken rule.Value
-    (typed kind keyword.Before v unbroken, none_given (GivesValue kinds.DateTime v) test.Below none)
+    given_by kind keyword.Before v rule.Value (GivesValue kinds.DateTime v) test.Below (λ lacks. lacks) unbroken none
 test_given kind keyword.BeforeOrAt v is unbroken file none =
-    not_faulty kind keyword.BeforeOrAt v unbroken rule.Value
-    (typed kind keyword.BeforeOrAt v unbroken, none_given (GivesValue kinds.DateTime v) test.AtMost none)
+    given_by kind keyword.BeforeOrAt v rule.Value (GivesValue kinds.DateTime v) test.AtMost (λ lacks. lacks) unbroken none
 test_given kind keyword.GranularTo v is unbroken file none =
     let typed_so : has_grid_type (class_of_kind kind) v ≡ true =
     grid_typed (ladder_class (class_of_kind kind)) (has_grid_type (class_of_kind kind) v) is

@@ -9,7 +9,7 @@ use Rattle.helix_json.specs.declared.value.Json as json
 use Rattle.helix_keywords.specs.declared.keyword.Keyword.{Keyword}
 use Rattle.helix_keywords.specs.declared.keyword.Keyword.TheVariants as keyword
 use Rattle.helix_operands.specs.Tests.{GivesTest}
-use Rattle.helix_operands.specs.Values.{AreValues, GivesLength, GivesLevel, GivesMembers, GivesPattern, GivesValue, HasUnits, level_named, text_of}
+use Rattle.helix_operands.specs.Values.{AreValues, GivesLength, GivesLevel, GivesMembers, GivesPattern, GivesValue, HasUnits, text_of}
 use Rattle.helix_operands.specs.MadeLaws.{one_made}
 use Rattle.helix_places.specs.Members.{items_of}
 use Rattle.helix_profile.specs.declared.test.Test.{Test}
@@ -18,7 +18,7 @@ use Rattle.helix_regex.proofs.OneRegex.{one_regex}
 use Rattle.helix_texts.proofs.NumberTexts.{one_number}
 use Rattle.helix_texts.proofs.TextLaws.{one}
 use Rattle.helix_texts.specs.Spelling.{Spells}
-use Rattle.helix_values.specs.Class.{Class, booleans, numbers, strings, moments, class_of_kind}
+use Rattle.helix_values.specs.Class.{Class, numbers, moments, class_of_kind}
 use Rattle.helix_values.specs.declared.cell.Cell.{Cell}
 use Rattle.helix_values.specs.declared.kind.Kind.{Kind}
 use Rattle.helix_values.specs.declared.kind.Kind.TheVariants as kinds

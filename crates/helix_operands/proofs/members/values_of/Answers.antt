@@ -1,4 +1,4 @@
-use Rattle.std.proofs.Common.{Option, ◌∷◌, ◌++◌, [], List, subst, sym, take, ◌+◌}
+use Rattle.std.proofs.Common.{Option, List, subst, sym, take, ◌+◌}
 use Rattle.helix_operands.proofs.MemberValues.{next_value, not_values}
 use Rattle.helix_operands.specs.Values.{AreValues, GivesValue, Reads}
 use Rattle.helix_values.specs.declared.cell.Cell.{Cell}
