@@ -1,0 +1,4 @@
+pub mod Searches
+pub mod Refused
+pub mod FaultyMembers
+pub mod FieldNames
