@@ -1,0 +1,8 @@
+use Rattle.std.proofs.Common.{◌≡◌, drop, find}
+use Rattle.std.specs.Str.{bytes_eq}
+use Rattle.helix_keywords.specs.Keywords.{keywords, word_of}
+use Rattle.helix_keywords.proofs.keyword.keyword_named.Given as goal
+
+abbrev pub invariant-loop-keyword : goal.invariant-loop-keyword
+invariant-loop-keyword l = find (λ keyword. bytes_eq l.word (word_of keyword)) (drop l.keyword-index l.keyword-items)
+    ≡ find (λ keyword. bytes_eq l.word (word_of keyword)) keywords
