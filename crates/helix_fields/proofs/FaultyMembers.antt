@@ -17,8 +17,8 @@ use Rattle.helix_places.specs.KeyLaws.{Leads, leads, value_at, index_at, NoneBef
 use Rattle.helix_places.specs.PartLaws.{Says}
 use Rattle.helix_places.specs.ViewLaws.{members_of_object}
 use Rattle.helix_fields.specs.FaultyMember.{IsFaultyMember}
-use Rattle.helix_fields.proofs.Searches.{none_is}
-use Rattle.helix_fields.proofs.Refused.{not_both}
+use Rattle.helix_fields.specs.SearchLaws.{none_is}
+use Rattle.helix_fields.specs.RefusalLaws.{not_both}
 
 -- no object has a member
 pub no_members : (v : Json) (allowed : List ℕ → Json → Bool) → members_of v ≡ []

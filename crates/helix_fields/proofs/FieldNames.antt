@@ -14,7 +14,7 @@ use Rattle.helix_places.specs.Places.{Finds, Precedes}
 use Rattle.helix_places.specs.KeyLaws.{NoneBefore}
 use Rattle.helix_places.specs.ViewLaws.{items_of_list}
 use Rattle.helix_fields.specs.FieldRules.{BreaksNames, IsFaultyName, name_at, name_of, name_of_some}
-use Rattle.helix_fields.proofs.Refused.{not_both}
+use Rattle.helix_fields.specs.RefusalLaws.{not_both}
 
 -- the field with an index
 at_is : (fields : List Json) (i : ℕ) (field : Json) → i < length fields → field ≡ get_or fields i field

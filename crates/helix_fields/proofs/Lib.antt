@@ -1,4 +1,2 @@
-pub mod Searches
-pub mod Refused
 pub mod FaultyMembers
 pub mod FieldNames

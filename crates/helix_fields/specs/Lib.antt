@@ -6,6 +6,8 @@ pub mod Whole
 pub mod FieldRules
 pub mod Fields
 -- Lemmas for the crates above.
+pub mod SearchLaws
+pub mod RefusalLaws
 pub mod FieldLaws
 -- What only private clauses cite.
 pub mod Inner

@@ -35,6 +35,7 @@ pub use field::{field_fault, unique_fault};
 pub use fields::{constraints_in, read_fields};
 pub use kinds::kind_named;
 pub use names::name_fault;
+pub use parts::{refused_at, value_in, within};
 pub use whole::{constraint_list_fault, field_list_fault, object_fault, profile_key_fault};
 
 #[cfg(test)]

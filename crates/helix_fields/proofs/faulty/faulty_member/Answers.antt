@@ -2,7 +2,7 @@ use Rattle.helix_json.specs.declared.value.Json.TheViews as view
 use Rattle.helix_fields.specs.FaultyMember.{IsFaultyMember}
 use Rattle.helix_fields.specs.Inner.Objects.{may_have}
 use Rattle.helix_fields.proofs.FaultyMembers.{no_members}
-use Rattle.helix_fields.proofs.Searches.{same_says}
+use Rattle.helix_fields.specs.SearchLaws.{same_says}
 use Rattle.helix_fields.proofs.faulty.faulty_member.Goals as goal
 
 pub returns-in-Some : goal.returns-in-Some

@@ -1,7 +1,7 @@
 use Rattle.std.proofs.Common.{codes}
 use Rattle.helix_places.specs.Places.{InItem}
 use Rattle.helix_fields.specs.FieldRules.{BreaksFieldForm}
-use Rattle.helix_fields.proofs.Searches.{member_says, none_under}
+use Rattle.helix_fields.specs.SearchLaws.{member_says, none_under}
 use Rattle.helix_fields.proofs.field.field_fault.Goals as goal
 
 pub returns-in_ok-in_fields-in-Some : goal.returns-in_ok-in_fields-in-Some

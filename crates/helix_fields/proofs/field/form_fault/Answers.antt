@@ -1,8 +1,8 @@
 use Rattle.std.proofs.Common.{◌≡◌, ◌∙◌, false, sym}
 use Rattle.helix_fields.specs.FaultyMember.{IsFaultyMember}
 use Rattle.helix_fields.specs.FieldRules.{is_field_member, is_named_and_typed}
-use Rattle.helix_fields.proofs.Refused.{not_both}
-use Rattle.helix_fields.proofs.Searches.{below_says, top_says}
+use Rattle.helix_fields.specs.RefusalLaws.{not_both}
+use Rattle.helix_fields.specs.SearchLaws.{below_says, top_says}
 use Rattle.helix_fields.proofs.field.form_fault.Goals as goal
 
 pub returns-then-is_named_and_typed : goal.returns-then-is_named_and_typed

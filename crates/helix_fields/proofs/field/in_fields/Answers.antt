@@ -1,7 +1,7 @@
 use Rattle.helix_json.specs.declared.value.Json.TheViews as view
 use Rattle.helix_places.specs.Places.{InItem}
 use Rattle.helix_fields.specs.Inner.Objects.{BreaksInField}
-use Rattle.helix_fields.proofs.Searches.{no_items, same_says}
+use Rattle.helix_fields.specs.SearchLaws.{no_items, same_says}
 use Rattle.helix_fields.proofs.field.in_fields.Goals as goal
 
 pub returns-in-Some : goal.returns-in-Some

@@ -1,8 +1,8 @@
 use Rattle.std.proofs.Common.{◌≡◌, true, codes}
 use Rattle.helix_places.specs.Places.{Here}
 use Rattle.helix_fields.specs.FieldRules.{is_true}
-use Rattle.helix_fields.proofs.Refused.{true_refused}
-use Rattle.helix_fields.proofs.Searches.{none_under}
+use Rattle.helix_fields.specs.RefusalLaws.{true_refused}
+use Rattle.helix_fields.specs.SearchLaws.{none_under}
 use Rattle.helix_fields.proofs.field.own_unique_fault.Goals as goal
 
 pub returns-in-Some : goal.returns-in-Some

@@ -1,7 +1,7 @@
 use Rattle.std.proofs.Common.{◌∙◌, ap, map, sym, subst}
 use Rattle.helix_fields.specs.FieldLaws.{fields_are_valid}
 use Rattle.helix_fields.specs.Fields.{AreValidFields, field_of}
-use Rattle.helix_fields.proofs.Searches.{if_ok}
+use Rattle.helix_fields.specs.SearchLaws.{if_ok}
 use Rattle.helix_fields.proofs.fields.read_fields.Goals as goal
 
 pub returns-clause-valid : goal.returns-clause-valid

@@ -1,6 +1,6 @@
 use Rattle.std.proofs.Common.{codes}
 use Rattle.helix_fields.specs.FieldRules.{BreaksNames}
-use Rattle.helix_fields.proofs.Searches.{member_says, none_under}
+use Rattle.helix_fields.specs.SearchLaws.{member_says, none_under}
 use Rattle.helix_fields.proofs.names.name_fault.Goals as goal
 
 pub returns-in_ok-in_fields-in-Some : goal.returns-in_ok-in_fields-in-Some

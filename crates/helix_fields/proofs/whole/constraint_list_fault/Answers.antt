@@ -1,8 +1,8 @@
 use Rattle.std.proofs.Common.{◌≡◌, false, codes}
 use Rattle.helix_places.specs.Places.{Here}
 use Rattle.helix_fields.specs.Whole.{is_list_within}
-use Rattle.helix_fields.proofs.Refused.{false_refused}
-use Rattle.helix_fields.proofs.Searches.{none_under}
+use Rattle.helix_fields.specs.RefusalLaws.{false_refused}
+use Rattle.helix_fields.specs.SearchLaws.{none_under}
 use Rattle.helix_fields.proofs.whole.constraint_list_fault.Goals as goal
 
 pub returns-in-Some : goal.returns-in-Some

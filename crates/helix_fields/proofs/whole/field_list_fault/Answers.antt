@@ -2,8 +2,8 @@ use Rattle.std.proofs.Common.{◌≡◌, false, codes}
 use Rattle.helix_places.specs.Members.{has_key, members_of, value_of}
 use Rattle.helix_places.specs.Places.{Here, InMember}
 use Rattle.helix_fields.specs.Whole.{is_list_within}
-use Rattle.helix_fields.proofs.Refused.{a_key, false_refused, no_key, not_both}
-use Rattle.helix_fields.proofs.Searches.{below_says, top_says}
+use Rattle.helix_fields.specs.RefusalLaws.{a_key, false_refused, no_key, not_both}
+use Rattle.helix_fields.specs.SearchLaws.{below_says, top_says}
 use Rattle.helix_fields.proofs.whole.field_list_fault.Goals as goal
 
 pub returns-in-Some : goal.returns-in-Some

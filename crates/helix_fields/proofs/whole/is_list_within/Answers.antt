@@ -1,6 +1,6 @@
 use Rattle.std.proofs.Common.{◌≡◌, ◌∙◌, ◌&&◌, false, ap, length, nat_le, sym}
 use Rattle.std.proofs.lemmas.Bool.{le-leb, lt-leb}
-use Rattle.helix_fields.proofs.Refused.{list_within}
+use Rattle.helix_fields.specs.RefusalLaws.{list_within}
 use Rattle.helix_fields.proofs.whole.is_list_within.Goals as goal
 
 pub returns-then-least-items : goal.returns-then-least-items

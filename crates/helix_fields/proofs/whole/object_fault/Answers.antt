@@ -1,6 +1,6 @@
 use Rattle.std.proofs.Common.{◌≡◌, ◌∙◌, false, sym}
 use Rattle.helix_places.specs.Members.{is_object}
-use Rattle.helix_fields.proofs.Refused.{not_both, top_allowed, top_refused}
+use Rattle.helix_fields.specs.RefusalLaws.{not_both, top_allowed, top_refused}
 use Rattle.helix_fields.proofs.whole.object_fault.Goals as goal
 
 pub returns-then-is_object : goal.returns-then-is_object

@@ -11,7 +11,7 @@ use Rattle.helix_places.specs.PlaceLaws.{finds_top, none_in_member, first_in_mem
 use Rattle.helix_places.specs.PartLaws.{Says}
 use Rattle.helix_places.specs.ViewLaws.{items_of_list}
 use Rattle.helix_fields.specs.Whole.{is_list_within}
-use Rattle.helix_fields.proofs.Searches.{if_ok}
+use Rattle.helix_fields.specs.SearchLaws.{if_ok}
 
 pub not_both : (b : Bool) → b ≡ true → b ≡ false → ⊥
 not_both b is_true is_false = cc
