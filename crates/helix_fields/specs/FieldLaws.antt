@@ -20,11 +20,11 @@ use Rattle.helix_fields.specs.Fields.{AreValidFields, IsNowhere, field_of, field
 use Rattle.helix_fields.specs.Under.{items_under, items_of_some, text_of_some}
 use Rattle.helix_fields.specs.Whole.{BreaksFieldList, is_list_within}
 
-not_false : (b : Bool) → ¬ (b ≡ false) → b ≡ true
+pub not_false : (b : Bool) → ¬ (b ≡ false) → b ≡ true
 not_false true n = refl
 not_false false n = absurd (n refl)
 
-some_value : (o : Option Json) → is_some o ≡ true → (w : Json) × (o ≡ Some w)
+pub some_value : (o : Option Json) → is_some o ≡ true → (w : Json) × (o ≡ Some w)
 some_value None e = absurd (cc)
 some_value (Some w) e = (w, refl)
 
@@ -108,7 +108,7 @@ fields_are v list =
 
 module _ (v w : Json) (is : value_of (codes "fields") (members_of v) ≡ Some w) where
   -- an item of `fields` is as a field has to be
-  item_sound : IsNowhere BreaksField v → (k : ℕ) (x : Json) → slice_get (items_of w) k ≡ Some x
+  pub item_sound : IsNowhere BreaksField v → (k : ℕ) (x : Json) → slice_get (items_of w) k ≡ Some x
       → IsNowhere BreaksFieldForm x
   item_sound form k x at place broken = form (step.Member (codes "fields") ∷ step.Item k ∷ place) (
     refl,
@@ -130,18 +130,22 @@ module _ (v w : Json) (is : value_of (codes "fields") (members_of v) ≡ Some w)
             }),
       )
 
--- a field that is as it has to be has a name
+-- a field that is as it has to be has a name and a type
+pub named_and_typed : (x : Json) → IsNowhere BreaksFieldForm x
+    → (has_key (codes "name") (members_of x) ≡ true) × (has_key (codes "type") (members_of x) ≡ true)
+named_and_typed x sound = and_parts (has_key (codes "name") (members_of x)) (has_key (codes "type") (members_of x))
+    (not_false (is_named_and_typed x) (λ bad. sound [] (inl (refl, bad))))
+
+-- what is under a key of it is as it has to be
+pub member_sound : (x : Json) → IsNowhere BreaksFieldForm x → (key : List ℕ) (w : Json)
+    → value_of key (members_of x) ≡ Some w → is_field_member key w ≡ true
+member_sound x sound key w is = not_false (is_field_member key w) (λ bad. sound (step.Member key ∷ [])
+    (inr (refl, and_some (value_of key (members_of x)) (λ u. is_field_member key u ≡ false) w is bad)))
+
 pub has_name : (x : Json) → IsNowhere BreaksFieldForm x → (name : List ℕ) × (name_of x ≡ Some name)
 has_name x sound =
-    let both = and_parts (has_key (codes "name") (members_of x)) (has_key (codes "type") (members_of x))
-    (not_false (is_named_and_typed x) (λ bad. sound [] (inl (refl, bad)))) in
-    let there = some_value (value_of (codes "name") (members_of x)) both.0 in
-    let text = string_text there.0 (name_member there.0 (not_false (is_field_member (codes "name") there.0)
-    (λ bad. sound (step.Member (codes "name") ∷ []) (inr (
-      refl,
-      and_some (value_of (codes "name") (members_of x))
-          (λ u. is_field_member (codes "name") u ≡ false) there.0 there.1 bad,
-    ))))) in
+    let there = some_value (value_of (codes "name") (members_of x)) (named_and_typed x sound).0 in
+    let text = string_text there.0 (name_member there.0 (member_sound x sound (codes "name") there.0 there.1)) in
     (text.0, ap text_of_some there.1 ∙ text.1)
 
 -- items that have names, of which none is faulty

@@ -1,5 +1,5 @@
 -- The fields and the constraints of a profile. Where no rule of fields is broken, nothing in a field is missing.
-use Rattle.std.specs.Prelude.{ℕ, Bool, true, ◌≤◌, List, [], map, length, Option, Some, None, codes}
+use Rattle.std.specs.Prelude.{◌≡◌, ℕ, Bool, true, ◌≤◌, List, [], map, length, Option, Some, None, IsSomeAnd, codes}
 use Rattle.std.specs.List.{AllByRecursion}
 use Rattle.helix_base.specs.declared.alphabet.Alphabet.{Alphabet}
 use Rattle.helix_json.specs.declared.value.Json.{Json}
@@ -45,6 +45,11 @@ field_of alphabet v = record {
   kind = kind_of_word alphabet (text_under (codes "type") v);
   nullable = is_nullable (value_of (codes "nullable") (members_of v));
 }
+
+-- The item is a field's, with nothing missing: its name, and the kind of its type.
+pub record Declares (alphabet : Alphabet) (item : Json) (field : Field) : Type 0 where
+  pub name : name_of item ≡ Some field.name
+  pub kind : IsSomeAnd (text_under (codes "type") item) (λ word. kind_named alphabet word ≡ Some field.kind)
 
 -- the fields of a profile
 abbrev pub fields_of : Alphabet → Json → List Field

@@ -9,5 +9,6 @@ pub mod Fields
 pub mod SearchLaws
 pub mod RefusalLaws
 pub mod FieldLaws
+pub mod TypeLaws
 -- What only private clauses cite.
 pub mod Inner

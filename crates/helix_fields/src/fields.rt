@@ -1,10 +1,11 @@
 //! The fields and the constraints that a profile declares.
 
 ghost use Rattle.std.specs.Prelude.{◌≡◌, IfOk, codes, map};
+ghost use Rattle.std.specs.List.{AllByRecursion};
 ghost use Rattle.helix_places.specs.Members.{members_of, value_of};
 ghost use Rattle.helix_fields.specs.FieldRules.{BreaksField, BreaksFieldName, name_of};
-ghost use Rattle.helix_fields.specs.Under.{text_under};
-ghost use Rattle.helix_fields.specs.Fields.{AreValidFields, IsNowhere, constraints_of, field_of, fields_of, is_nullable, kind_of_word, name_or_empty};
+ghost use Rattle.helix_fields.specs.Under.{items_under, text_under};
+ghost use Rattle.helix_fields.specs.Fields.{AreValidFields, Declares, IsNowhere, constraints_of, field_of, fields_of, is_nullable, kind_of_word, name_or_empty};
 ghost use Rattle.helix_fields.specs.Whole.{BreaksFieldList};
 
 use crate::kinds::kind_named;
@@ -19,6 +20,9 @@ use std::alloc::Global;
 /// The fields of a profile, in their declared order, whose strings are of the alphabet.
 pub fn read_fields(alloc: Global, alphabet: Alphabet, v: &Json) -> Result<Fields, Memory>
     ensures fields { IfOk result (λ fields. fields ≡ fields_of alphabet v.now) }
+    ensures declared { IsNowhere BreaksFieldList v.now → IsNowhere BreaksField v.now
+        → AllByRecursion (λ item. Declares alphabet item (field_of alphabet item))
+        (items_under (codes "fields") v.now) }
     ensures valid { IsNowhere BreaksFieldList v.now → IsNowhere BreaksField v.now → IsNowhere BreaksFieldName v.now
         → IfOk result AreValidFields }
 {

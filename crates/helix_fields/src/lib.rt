@@ -13,8 +13,8 @@
 //! [`unique_fault`] for S6 and [`constraint_list_fault`] for S7. Each answers the first place in the text where its
 //! rule is broken, or None where it is broken nowhere, of a value in which no object repeats a key.
 //!
-//! [`read_fields`] gives the fields of any value; where S3, S4 and S5 are broken nowhere they are valid: 1 to 64 fields
-//! with names, no two of which are the same.
+//! [`read_fields`] gives the fields of any value. Where S3 and S4 are broken nowhere no field lacks its name or type,
+//! and where S5 is broken nowhere either they are valid: 1 to 64 fields with names, no two of which are the same.
 //!
 //! No clause says what a call costs: each looks at a member or a field a fixed number of times, but compares each name
 //! with all earlier ones. Only memory that runs out makes a call fail.

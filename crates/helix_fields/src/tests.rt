@@ -3,7 +3,7 @@ use crate::{
     profile_key_fault, read_fields, unique_fault,
 };
 use helix_base::{Alphabet, Memory, Text};
-use helix_json::{Json, read};
+use helix_json::{Items, Json, Member, Members, read};
 use helix_places::{Place, pointer_of};
 use helix_values::{Code, Kind};
 use std::alloc::Global;
@@ -30,6 +30,14 @@ fn first_fault(alloc: Global, v: &Json) -> Result<Option<(u32, Text)>, Memory> {
         }
     }
     Ok(None)
+}
+
+/// Whether the first broken rule of the value that a text spells is this one, at this pointer.
+fn is_refused(alloc: Global, text: &str, rule: u32, place: &str) -> Result<bool, Fail> {
+    let json = read(alloc, text.as_bytes())?;
+    let (broken, pointer) = first_fault(alloc, &json)?.ok_or("not refused")?;
+    let want = Text::of(alloc, place)?;
+    Ok(broken == rule && pointer.codes() == want.codes())
 }
 
 #[test]
@@ -121,11 +129,44 @@ fn the_first_broken_rule_is_refused(rt: HostRuntime) -> Result<(), Fail> {
         ),
     ];
     for (text, want_rule, want_place) in cases {
-        let json = read(rt.alloc(), text.as_bytes())?;
-        let refusal = first_fault(rt.alloc(), &json)?.ok_or("not refused")?;
-        let want = Text::of(rt.alloc(), want_place)?;
-        assert_eq!(rt; refusal.0, want_rule, "{text}");
-        assert!(rt; refusal.1.codes() == want.codes(), "{text}");
+        assert!(rt;
+            is_refused(rt.alloc(), text, want_rule, want_place)?,
+            "{text}"
+        );
+    }
+    Ok(())
+}
+
+/// Whether a value with one member, a list with a number of items, breaks a rule.
+fn breaks(alloc: Global, rule: u32, key: &str, count: usize) -> Result<bool, Memory> {
+    let mut items = Items::new(alloc);
+    for _i in 0..count {
+        items.push(Json::Null)?;
+    }
+    let mut members = Members::new(alloc);
+    members.push(Member {
+        key: Text::of(alloc, key)?,
+        value: Json::List(items),
+    })?;
+    Ok(fault(alloc, rule, &Json::Object(members))?.is_some())
+}
+
+#[test]
+fn lists_have_limits(rt: HostRuntime) -> Result<(), Fail> {
+    let cases = [
+        (3, "fields", 1, false),
+        (3, "fields", 64, false),
+        (3, "fields", 65, true),
+        (7, "constraints", 0, false),
+        (7, "constraints", 1000, false),
+        (7, "constraints", 1001, true),
+    ];
+    for (rule, key, count, want) in cases {
+        assert_eq!(rt;
+            breaks(rt.alloc(), rule, key, count)?,
+            want,
+            "{key} {count}"
+        );
     }
     Ok(())
 }
