@@ -6,13 +6,13 @@ use Rattle.std.proofs.lemmas.Option.{slice_get_read}
 use Rattle.helix_json.specs.declared.value.Json.{Json}
 use Rattle.helix_json.specs.declared.value.Json.TheViews as view
 use Rattle.helix_json.specs.declared.value.Member.{Member}
-use Rattle.helix_json.specs.Values.{HaveDifferentKeys, HasNoRepeatedKey}
+use Rattle.helix_json.specs.Values.{HaveDifferentKeys}
 use Rattle.helix_json.specs.ValueLaws.{keys_of_members}
 use Rattle.helix_places.specs.declared.place.Step.{Step}
 use Rattle.helix_places.specs.declared.place.Step.TheVariants as step
 use Rattle.helix_places.specs.Members.{members_of, value_of}
 use Rattle.helix_places.specs.Places.{part, index_of, index_of_part, IsFirstPlace, Finds, Here}
-use Rattle.helix_places.specs.PlaceLaws.{and_some, some_and, finds_top, first_in_part}
+use Rattle.helix_places.specs.PlaceLaws.{and_some, finds_top, first_in_part}
 use Rattle.helix_places.specs.KeyLaws.{Leads, leads, value_at, index_at, NoneBefore, none_at_all, none_more}
 use Rattle.helix_places.specs.PartLaws.{Says}
 use Rattle.helix_places.specs.ViewLaws.{members_of_object}

@@ -1,5 +1,5 @@
 -- Where no rule is broken, each field has what a field has to have, and the fields are valid.
-use Rattle.std.proofs.Common.{◌≡◌, ◌≢◌, ◌⊎◌, inl, inr, ℕ, zero, suc, ◌+◌, ◌<◌, ◌≤◌, Bool, true, false, not, ◌&&◌, ◌||◌, nat_le, nat_eq, List, [], ◌∷◌, length, take, map, Option, Some, None, is_some, slice_get, codes, refl, sym, ◌∙◌, ap, subst, arith}
+use Rattle.std.proofs.Common.{◌≡◌, ◌≢◌, inl, inr, ℕ, zero, suc, ◌<◌, ◌≤◌, Bool, true, false, not, ◌&&◌, ◌||◌, nat_le, nat_eq, List, [], ◌∷◌, length, take, map, Option, Some, None, is_some, slice_get, codes, refl, sym, ◌∙◌, ap, subst, arith}
 use Rattle.std.specs.List.{AllByRecursion, list_all}
 use Rattle.std.proofs.lemmas.Bool.{and_parts, leb-true}
 use Rattle.std.proofs.lemmas.List.{length-map, length-take-le}
@@ -7,7 +7,6 @@ use Rattle.std.proofs.lemmas.Option.{slice_get_within}
 use Rattle.helix_base.specs.declared.alphabet.Alphabet.{Alphabet}
 use Rattle.helix_json.specs.declared.value.Json.{Json}
 use Rattle.helix_json.specs.declared.value.Json as json
-use Rattle.helix_places.specs.declared.place.Step.{Step}
 use Rattle.helix_places.specs.declared.place.Step.TheVariants as step
 use Rattle.helix_places.specs.Members.{items_of, members_of, value_of, has_key, is_list, is_string}
 use Rattle.helix_places.specs.Names.{is_name_text, is_name_character}
@@ -15,7 +14,7 @@ use Rattle.helix_places.specs.Places.{Here, InItem}
 use Rattle.helix_places.specs.PlaceLaws.{and_some}
 use Rattle.helix_profile.specs.declared.field.Field.{Field}
 use Rattle.helix_profile.specs.Validity.{IsName, HaveDifferentNames}
-use Rattle.helix_fields.specs.FieldRules.{BreaksField, BreaksFieldForm, BreaksFieldName, BreaksNames, IsFaultyName, is_field_member, is_named_and_typed, is_truth, name_at, name_of, name_of_some}
+use Rattle.helix_fields.specs.FieldRules.{BreaksField, BreaksFieldForm, BreaksFieldName, BreaksNames, IsFaultyName, is_field_member, is_named_and_typed, name_at, name_of, name_of_some}
 use Rattle.helix_fields.specs.Fields.{AreValidFields, IsNowhere, field_of, fields_of, name_or_empty}
 use Rattle.helix_fields.specs.Under.{items_under, items_of_some, text_of_some}
 use Rattle.helix_fields.specs.Whole.{BreaksFieldList, is_list_within}

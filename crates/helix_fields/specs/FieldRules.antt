@@ -4,7 +4,7 @@ use Rattle.helix_json.specs.declared.value.Json.{Json}
 use Rattle.helix_json.specs.declared.value.Json as json
 use Rattle.helix_places.specs.declared.place.Step.{Step}
 use Rattle.helix_places.specs.declared.place.Step.TheVariants as step
-use Rattle.helix_places.specs.Members.{items_of, members_of, value_of, has_key, is_string}
+use Rattle.helix_places.specs.Members.{items_of, members_of, has_key, is_string}
 use Rattle.helix_places.specs.Names.{is_name_text}
 use Rattle.helix_places.specs.Places.{Here, InMember, InItem}
 use Rattle.helix_fields.specs.FaultyMember.{IsFaultyMember}

@@ -12,7 +12,7 @@ use Rattle.helix_values.specs.declared.kind.Kind.{Kind}
 use Rattle.helix_values.specs.declared.kind.Kind.TheVariants as kind
 use Rattle.helix_values.specs.declared.kind.Code.TheVariants as code
 use Rattle.helix_fields.specs.FieldLaws.{fields_are, has_name, item_sound, member_sound, named_and_typed, some_value}
-use Rattle.helix_fields.specs.FieldRules.{BreaksField, BreaksFieldForm, is_field_member, name_of}
+use Rattle.helix_fields.specs.FieldRules.{BreaksField, BreaksFieldForm, is_field_member}
 use Rattle.helix_fields.specs.Fields.{Declares, IsNowhere, field_of, kind_of_word, kind_or_boolean, name_or_empty}
 use Rattle.helix_fields.specs.Types.{code_named, is_code_word, is_plain_word, is_text_word, is_type, is_type_word, kind_named, text_named}
 use Rattle.helix_fields.specs.Under.{items_of_some, items_under, text_of_some, text_under}
