@@ -1,0 +1,2 @@
+pub mod FaultyMembers
+pub mod FieldNames
