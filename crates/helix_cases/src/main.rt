@@ -22,8 +22,10 @@ use std::io;
 
 fn main(rt: HostRuntime) -> io::Result<()> {
     for line in rt.lines(rt.alloc()) {
-        let text = answer(rt.alloc(), line?.as_str())?;
-        println!(rt; "{text}")?;
+        match answer(rt.alloc(), line?.as_str()) {
+            Ok(text) => println!(rt; "{text}")?,
+            Err(_) => println!(rt; "out of memory")?,
+        }
     }
     Ok(())
 }
