@@ -3,6 +3,7 @@ use Rattle.std.proofs.Common.{◌≡◌, ◌⊎◌, ◌↔◌, inl, inr, ⊎_eli
 use Rattle.std.specs.Option.{IsSomeAnd}
 use Rattle.helix_base.specs.declared.memory.Memory.{Memory}
 use Rattle.helix_json.specs.declared.value.Json.{Json}
+use Rattle.helix_json.specs.declared.value.Json as json
 use Rattle.helix_json.specs.declared.value.Json.TheViews as view
 use Rattle.helix_json.specs.declared.value.Member.{Member}
 use Rattle.helix_keywords.specs.Forms.{form_of, has_form, key_sets}
@@ -135,6 +136,30 @@ module _ (P : Json → List Step → Type 0) where
     (λ deep. (itself_or role.Many v place).0 (inr deep)),
     (λ h. ⊎_elim (λ itself. absurd itself) (λ deep. deep) ((itself_or role.Many v place).1 h)),
   )
+
+  -- a value that is to be a list
+  many_items : (w : Json) (place : List Step) → Visited P role.Many w place ↔ InItem (Visited P role.One) w place
+  many_items w [] = ((λ h. h), (λ h. h))
+  many_items json.Null (step.Item i ∷ place) = ((λ h. ⊎_elim (λ a. a) (λ b. b) h), (λ h. absurd h))
+  many_items (json.Bool b) (step.Item i ∷ place) = ((λ h. ⊎_elim (λ a. a) (λ c. c) h), (λ h. absurd h))
+  many_items (json.Number text) (step.Item i ∷ place) = ((λ h. ⊎_elim (λ a. a) (λ b. b) h), (λ h. absurd h))
+  many_items (json.Str text) (step.Item i ∷ place) = ((λ h. ⊎_elim (λ a. a) (λ b. b) h), (λ h. absurd h))
+  many_items (json.List' shape items) (step.Item i ∷ place) = ((λ h. ⊎_elim (λ a. absurd a) (λ b. b) h), (λ h. inr h))
+  many_items (json.Object' shape members) (step.Item i ∷ place) =
+      ((λ h. ⊎_elim (λ a. a) (λ b. b) h), (λ h. absurd h))
+  many_items json.Null (step.Member key ∷ place) = ((λ h. ⊎_elim (λ a. a) (λ b. b) h), (λ h. absurd h))
+  many_items (json.Bool b) (step.Member key ∷ place) = ((λ h. ⊎_elim (λ a. a) (λ c. c) h), (λ h. absurd h))
+  many_items (json.Number text) (step.Member key ∷ place) = ((λ h. ⊎_elim (λ a. a) (λ b. b) h), (λ h. absurd h))
+  many_items (json.Str text) (step.Member key ∷ place) = ((λ h. ⊎_elim (λ a. a) (λ b. b) h), (λ h. absurd h))
+  many_items (json.List' shape items) (step.Member key ∷ place) =
+      ((λ h. ⊎_elim (λ a. a) (λ b. b) h), (λ h. absurd h))
+  many_items (json.Object' shape members) (step.Member key ∷ place) =
+      ((λ h. ⊎_elim (λ a. a) (λ b. b) h), (λ h. absurd h))
+
+  pub top_list_says : (w : Json) (found : Option (List Step)) → Says (Visited P role.Many) w found
+      → Says (InItem (Visited P role.One)) w found
+  top_list_says w found says keys = finds_same w (Visited P role.Many w) (InItem (Visited P role.One) w) found
+      (many_items w) (says keys)
 
   items_same : (items : List Json) (place : List Step) → InItem (Visited P role.One) (view.List items) place
       ↔ InPart (Visited P role.One) (view.List items) place

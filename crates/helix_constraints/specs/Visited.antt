@@ -7,7 +7,7 @@ use Rattle.helix_keywords.specs.declared.form.Form.TheVariants as form
 use Rattle.helix_keywords.specs.Forms.{form_of}
 use Rattle.helix_places.specs.declared.place.Step.{Step}
 use Rattle.helix_places.specs.Members.{members_of, is_list}
-use Rattle.helix_places.specs.Places.{part, InMember}
+use Rattle.helix_places.specs.Places.{part, InItem, InMember}
 use Rattle.helix_constraints.specs.declared.role.Role.{Role}
 use Rattle.helix_constraints.specs.declared.role.Role.TheVariants as role
 
@@ -40,9 +40,9 @@ Visited P role v (step ∷ place) = Itself P role v (step ∷ place)
 abbrev pub InConstraint : (Json → List Step → Type 0) → Json → List Step → Type 0
 InConstraint P = Visited P role.One
 
--- `P` names the place in a constraint of the value
+-- `P` names the place in a constraint of the list `constraints`, or in one within such a constraint
 abbrev pub InConstraints : (Json → List Step → Type 0) → Json → List Step → Type 0
-InConstraints P = InMember (codes "constraints") (Visited P role.Many)
+InConstraints P = InMember (codes "constraints") (InItem (InConstraint P))
 
 -- `P` names the place in a constraint within the value
 abbrev pub Within : (Json → List Step → Type 0) → Role → Json → List Step → Type 0

@@ -6,9 +6,9 @@
 //! first_in_constraints(alloc, &SizeRule, &v)?     // S17: None, where no `anyOf` or `allOf` is empty
 //! ```
 //!
-//! A [`ConstraintRule`] says where a constraint breaks it by itself. [`first_in_constraints`] answers the first place in
-//! the text where a constraint of the value breaks it: one in the list `constraints`, or one within such a constraint.
-//! [`FormRule`] is S8, [`SizeRule`] is S17.
+//! A [`ConstraintRule`] says where a constraint breaks it by itself. [`first_in_constraints`] answers the first place
+//! in the text where a constraint of the value breaks it: one in the list `constraints`, or one within such a
+//! constraint. [`FormRule`] is S8, [`SizeRule`] is S17.
 //!
 //! No clause says what a call costs: the search asks the rule once of each constraint up to the first that breaks it.
 //! Recursion is as deep as the value is nested. Only memory that runs out makes a call fail.

@@ -38,7 +38,7 @@ fn in_constraint<R: ConstraintRule>(
     json: &Json,
 ) -> Result<Option<Place>, Memory>
     ensures { IfOk result (λ found. HasNoRepeatedKey json.now
-        → Finds json.now (Visited (R.breaks rule.now) role.One json.now) found) }
+        → Finds json.now (InConstraint (R.breaks rule.now) json.now) found) }
 {
     match rule.fault(alloc, json)? {
         Some(place) => Ok(Some(place)),

@@ -16,6 +16,9 @@
 //! [`read_fields`] gives the fields of any value. Where S3 and S4 are broken nowhere no field lacks its name or type,
 //! and where S5 is broken nowhere either they are valid: 1 to 64 fields with names, no two of which are the same.
 //!
+//! [`value_in`], [`within`] and [`refused_at`] are steps of such searches, for the crates above; what follows from them
+//! is in `specs/SearchLaws.antt` and `specs/RefusalLaws.antt`.
+//!
 //! No clause says what a call costs: each looks at a member or a field a fixed number of times, but compares each name
 //! with all earlier ones. Only memory that runs out makes a call fail.
 //!

@@ -15,7 +15,8 @@ pub returns-then-not-may_have : goal.returns-then-not-may_have
 returns-then-not-may_have c = found_fault (may_have c.args.object) c.args.members.now c.loop-member.member-index
     c.member-item.result c.loop-member-test.true c.member-item.is c.loop-member.invariant
     (key_read c.args.object c.codes.result.now c.member-item.result.key c.member-item.result.value
-    c.codes.ensures.value (sym c.may_have.ensures ∙ c.if-not-may_have.true)) c.in_ok-copy.field-0 c.step_out.new.self c.in_ok-copy.ensures
+    c.codes.ensures.value (sym c.may_have.ensures ∙ c.if-not-may_have.true))
+    c.in_ok-copy.field-0 c.step_out.new.self c.in_ok-copy.ensures
     (c.in_ok-step_out.ensures.ok ∙ ap (λ p. step.Member c.in_ok-copy.field-0 ∷ p) c.top-place.ensures)
 
 pub loop-member-preserved : goal.loop-member-preserved

@@ -5,8 +5,8 @@ use Rattle.helix_fields.specs.SearchLaws.{member_says, none_under}
 use Rattle.helix_fields.proofs.field.field_fault.Goals as goal
 
 pub returns-in_ok-in_fields-in-Some : goal.returns-in_ok-in_fields-in-Some
-returns-in_ok-in_fields-in-Some c = member_says c.args.v.now c.in-Some.fields.now (codes "fields") (InItem BreaksFieldForm)
-    c.in-Some.ensures c.in_ok-in_fields-in-Some.field-0 c.within.result c.in_ok-in_fields-in-Some.ensures
+returns-in_ok-in_fields-in-Some c = member_says c.args.v.now c.in-Some.fields.now (codes "fields")
+    (InItem BreaksFieldForm) c.in-Some.ensures c.in_ok-in_fields-in-Some.field-0 c.within.result c.in_ok-in_fields-in-Some.ensures
     c.within.ensures
 
 pub returns-in-None : goal.returns-in-None
