@@ -1,5 +1,5 @@
 -- The members of a constraint, one after the other.
-use Rattle.std.proofs.Common.{◌≡◌, ◌↔◌, ℕ, ◌<◌, ◌≤◌, Bool, true, false, IsTrue, List, [], ◌∷◌, length, ◌+◌, ◌∙◌, Option, Some, None, get_or, Result, IfOk, sym, subst, refl, ap}
+use Rattle.std.proofs.Common.{◌≡◌, ◌↔◌, ℕ, ◌<◌, ◌≤◌, Bool, true, false, IsTrue, List, [], ◌∷◌, length, ◌+◌, ◌∙◌, Option, Some, None, get_or, Result, IfOk, sym, subst, ap}
 use Rattle.std.specs.Option.{IsSomeAnd}
 use Rattle.helix_base.specs.declared.memory.Memory.{Memory}
 use Rattle.helix_json.specs.declared.value.Json.{Json}

@@ -1,5 +1,5 @@
 -- The first place that is that of a member, where members are searched in their order.
-use Rattle.std.proofs.Common.{◌≡◌, ℕ, ◌+◌, ◌<◌, ◌≤◌, ◌⊎◌, inl, inr, List, [], ◌∷◌, length, Option, Some, None, slice_get, get_or, refl, sym, ◌∙◌, ap, subst, arith}
+use Rattle.std.proofs.Common.{◌≡◌, ℕ, ◌<◌, ◌≤◌, ◌⊎◌, inl, inr, List, [], ◌∷◌, length, Option, Some, None, slice_get, get_or, refl, sym, ◌∙◌, ap, subst, arith}
 use Rattle.std.specs.Option.{IsSomeAnd}
 use Rattle.std.proofs.lemmas.Bool.{cases_lt}
 use Rattle.std.proofs.lemmas.Option.{slice_get_read}
@@ -12,7 +12,7 @@ use Rattle.helix_places.specs.declared.place.Step.{Step}
 use Rattle.helix_places.specs.declared.place.Step.TheVariants as step
 use Rattle.helix_places.specs.Members.{members_of, value_of}
 use Rattle.helix_places.specs.Places.{part, index_of, index_of_part, IsFirstPlace, Finds}
-use Rattle.helix_places.specs.PlaceLaws.{some_and, and_some, first_in_part}
+use Rattle.helix_places.specs.PlaceLaws.{and_some, first_in_part}
 use Rattle.helix_places.specs.KeyLaws.{Leads, leads, value_at, index_at, NoneBefore, none_at_all}
 use Rattle.helix_places.specs.ViewLaws.{members_of_object}
 use Rattle.helix_references.specs.AtMember.{AtMember}
