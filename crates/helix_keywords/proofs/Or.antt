@@ -1,6 +1,6 @@
--- What is neutral to `||`.
+-- A last test that fails adds nothing to others.
 use Rattle.std.proofs.Common.{◌≡◌, Bool, true, false, ◌||◌, refl}
 
-pub neutral : (b : Bool) → (b || false) ≡ b
-neutral true = refl
-neutral false = refl
+pub none : (b : Bool) → (b || false) ≡ b
+none true = refl
+none false = refl

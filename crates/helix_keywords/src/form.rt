@@ -90,7 +90,7 @@ fn part_form(word: &[u32]) -> Option<Form>
 }
 
 /// Whether members have a form.
-#[tactic(auto, using(crate::proofs::Or::neutral), unfolding(crate::specs::Forms::has_form, crate::specs::Forms::key_sets))]
+#[tactic(auto, using(crate::proofs::Or::none), unfolding(crate::specs::Forms::has_form, crate::specs::Forms::key_sets))]
 fn has_form(members: &[Member], form: Form) -> bool
     ensures { result ≡ has_form form members.now }
 {

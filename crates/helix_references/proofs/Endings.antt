@@ -1,10 +1,10 @@
 -- Digits and the count at their end, and whole numbers by them.
-use Rattle.std.proofs.Common.{◌≡◌, ◌≢◌, ℕ, zero, suc, ◌+◌, ◌*◌, ◌-◌, ◌^◌, ◌%◌, ◌<◌, ◌≤◌, ◌↔◌, inl, inr, min, nat_le, not, Bool, true, false, IsTrue, MatchBool, List, ◌++◌, length, refl, sym, ◌∙◌, ap, subst, arith, mul_assoc}
+use Rattle.std.proofs.Common.{◌≡◌, ◌≢◌, ℕ, ◌+◌, ◌*◌, ◌-◌, ◌^◌, ◌%◌, ◌<◌, ◌≤◌, ◌↔◌, inl, inr, min, nat_le, not, Bool, true, false, IsTrue, MatchBool, List, ◌++◌, length, refl, sym, ◌∙◌, ap, subst, arith, mul_assoc}
 use Rattle.std.proofs.lemmas.Nat.{pow-add}
 use Rattle.std.proofs.lemmas.Bool.{cases_lt, leb-true, le-leb}
 use Rattle.helix_json.specs.Numbers.{digits_value, digits_from}
 use Rattle.helix_json.specs.Inner.Pieces.{AreUnits}
-use Rattle.helix_json.specs.Inner.DecimalLaws.{pow_more, shift, cancel, from-append}
+use Rattle.helix_json.specs.Inner.DecimalLaws.{shift, cancel, from-append}
 use Rattle.helix_references.specs.Inner.Wholes.{AreWhole, EndsIn}
 
 -- one digit more

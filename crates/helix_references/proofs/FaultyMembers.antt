@@ -1,5 +1,5 @@
 -- The members of a constraint, one after the other.
-use Rattle.std.proofs.Common.{◌≡◌, ◌↔◌, ℕ, ◌<◌, ◌≤◌, Bool, true, false, IsTrue, List, [], ◌∷◌, length, ◌+◌, ◌∙◌, Option, Some, None, get_or, Result, IfOk, sym, subst, refl, ap}
+use Rattle.std.proofs.Common.{◌≡◌, ◌↔◌, ℕ, ◌<◌, ◌≤◌, Bool, true, false, IsTrue, List, [], ◌∷◌, length, ◌+◌, ◌∙◌, Option, Some, None, get_or, Result, IfOk, sym, subst, ap}
 use Rattle.std.specs.Option.{IsSomeAnd}
 use Rattle.helix_base.specs.declared.memory.Memory.{Memory}
 use Rattle.helix_json.specs.declared.value.Json.{Json}
@@ -17,7 +17,7 @@ use Rattle.helix_places.specs.ViewLaws.{members_of_object}
 use Rattle.helix_profile.specs.declared.field.Field.{Field}
 use Rattle.helix_references.specs.declared.rule.ReferenceRule.{ReferenceRule}
 use Rattle.helix_references.specs.AtMember.{AtMember}
-use Rattle.helix_references.specs.MemberLaws.{IsFaulty, SaysAt, found_faulty, no_more_faulty}
+use Rattle.helix_references.specs.MemberLaws.{HasFault, SaysAt, found_faulty, no_more_faulty}
 use Rattle.helix_references.specs.Rules.{Breaks, IsFaulty as FaultyBy}
 
 -- what a search says of a value whose keys differ
@@ -36,19 +36,19 @@ module _ (rule : ReferenceRule) (fields : List Field) (members : List Member) (f
       subst Q (sym (members_of_object members)) (subst R form_is (says keys))
 
   pub no_more_members : (i : ℕ) → length members ≤ i
-      → NoneBefore (IsFaulty (FaultyBy rule fields members form)) members i
+      → NoneBefore (HasFault (FaultyBy rule fields members form)) members i
       → Says rule fields (view.Object members) None
   no_more_members i all none = says_of None (no_more_faulty (FaultyBy rule fields members form) members i all none)
 
   module _ (i : ℕ) (m : Member) (within : i < length members) (read : m ≡ get_or members i m)
-      (none : NoneBefore (IsFaulty (FaultyBy rule fields members form)) members i) (key : List ℕ) (key_is : key ≡ m.key)
+      (none : NoneBefore (HasFault (FaultyBy rule fields members form)) members i) (key : List ℕ) (key_is : key ≡ m.key)
       (answer : Bool) (answer_is : IsTrue answer ↔ FaultyBy rule fields members form key m.value)
     where
       faulty_is : FaultyBy rule fields members form key m.value ≡ FaultyBy rule fields members form m.key m.value
       faulty_is = ap (λ k. FaultyBy rule fields members form k m.value) key_is
 
-      pub next_member : answer ≡ false → NoneBefore (IsFaulty (FaultyBy rule fields members form)) members (i + 1)
-      next_member not_faulty = none_more (IsFaulty (FaultyBy rule fields members form)) members i m within read none
+      pub next_member : answer ≡ false → NoneBefore (HasFault (FaultyBy rule fields members form)) members (i + 1)
+      next_member not_faulty = none_more (HasFault (FaultyBy rule fields members form)) members i m within read none
           (λ faulty. let is_true : answer ≡ true = answer_is.1 (subst (λ T. T) (sym faulty_is) faulty) in
           let P : true ≡ false = sym is_true ∙ not_faulty in cc)
 

@@ -1,6 +1,6 @@
 -- The parts of a number that are found in its text.
-use Rattle.std.proofs.Common.{◌≡◌, ◌↔◌, ℕ, List, ◌++◌, length, Bool, ℤ, sym, ◌∙◌, ap, subst}
-use Rattle.helix_json.specs.Numbers.{NumberParts, SpellsNumber, digits_value, signed, IsUnits, IsNumber}
+use Rattle.std.proofs.Common.{◌≡◌, ◌↔◌, ℕ, List, ◌++◌, Bool, ℤ, sym, ◌∙◌, ap, subst}
+use Rattle.helix_json.specs.Numbers.{NumberParts, SpellsNumber, signed, IsUnits, IsNumber}
 use Rattle.helix_base.specs.Digits.{AreDigits}
 use Rattle.helix_json.specs.Inner.Pieces.{NoDigit, TakesSign, TakesFraction, TakesExponent, Found}
 use Rattle.helix_json.specs.Inner.PartsLaws.{parts_found, units_found}

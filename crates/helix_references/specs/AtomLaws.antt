@@ -1,11 +1,9 @@
 -- An atomic constraint that breaks no rule has a declared field, for which its keyword is.
-use Rattle.std.proofs.Common.{◌≡◌, ℕ, Bool, true, false, not, List, [], ◌∷◌, Option, Some, None, IsSome, slice_get, codes, refl, sym, ◌∙◌, ap}
+use Rattle.std.proofs.Common.{◌≡◌, ℕ, true, not, List, [], ◌∷◌, Option, Some, None, IsSome, slice_get, codes, refl, sym, ◌∙◌, ap}
 use Rattle.std.specs.Str.{bytes_eq}
 use Rattle.std.proofs.lemmas.Bool.{and_from, true_from_ne_false}
-use Rattle.helix_json.specs.declared.value.Json.{Json}
 use Rattle.helix_json.specs.declared.value.Json.TheViews as view
 use Rattle.helix_json.specs.declared.value.Member.{Member}
-use Rattle.helix_keywords.specs.declared.form.Form.{Form}
 use Rattle.helix_keywords.specs.declared.form.Form.TheVariants as form
 use Rattle.helix_keywords.specs.declared.keyword.Keyword.{Keyword}
 use Rattle.helix_keywords.specs.Forms.{form_of, has_form}

@@ -1,5 +1,5 @@
 -- The first place that is that of a member, where members are searched in their order.
-use Rattle.std.proofs.Common.{◌≡◌, ℕ, ◌+◌, ◌<◌, ◌≤◌, ◌⊎◌, inl, inr, List, [], ◌∷◌, length, Option, Some, None, slice_get, get_or, refl, sym, ◌∙◌, ap, subst, arith}
+use Rattle.std.proofs.Common.{◌≡◌, ℕ, ◌<◌, ◌≤◌, ◌⊎◌, inl, inr, List, [], ◌∷◌, length, Option, Some, None, slice_get, get_or, refl, sym, ◌∙◌, ap, subst, arith}
 use Rattle.std.specs.Option.{IsSomeAnd}
 use Rattle.std.proofs.lemmas.Bool.{cases_lt}
 use Rattle.std.proofs.lemmas.Option.{slice_get_read}
@@ -12,14 +12,14 @@ use Rattle.helix_places.specs.declared.place.Step.{Step}
 use Rattle.helix_places.specs.declared.place.Step.TheVariants as step
 use Rattle.helix_places.specs.Members.{members_of, value_of}
 use Rattle.helix_places.specs.Places.{part, index_of, index_of_part, IsFirstPlace, Finds}
-use Rattle.helix_places.specs.PlaceLaws.{some_and, and_some, first_in_part}
+use Rattle.helix_places.specs.PlaceLaws.{and_some, first_in_part}
 use Rattle.helix_places.specs.KeyLaws.{Leads, leads, value_at, index_at, NoneBefore, none_at_all}
 use Rattle.helix_places.specs.ViewLaws.{members_of_object}
 use Rattle.helix_references.specs.AtMember.{AtMember}
 
 -- a member is as `Faulty` says
-abbrev pub IsFaulty : (List ℕ → Json → Type 0) → Member → Type 0
-IsFaulty Faulty m = Faulty m.key m.value
+abbrev pub HasFault : (List ℕ → Json → Type 0) → Member → Type 0
+HasFault Faulty m = Faulty m.key m.value
 
 some_of : {A : Type 0} (o : Option A) (P : A → Type 0) → IsSomeAnd o P → (x : A) × (o ≡ Some x) × P x
 some_of None P h = absurd h
@@ -33,11 +33,11 @@ module _ (Faulty : List ℕ → Json → Type 0) (members : List Member) where
       let some = some_of (value_of key (members_of (view.Object members))) (Faulty key) h in
       (some.0, leads key members some.0 (ap (value_of key) (sym (members_of_object members)) ∙ some.1), some.2)
 
-  named_there : (key : List ℕ) (w : Json) (found : Leads key members w) → Faulty key w → IsFaulty Faulty found.member
+  named_there : (key : List ℕ) (w : Json) (found : Leads key members w) → Faulty key w → HasFault Faulty found.member
   named_there key w found faulty = let P : List ℕ → Type 0 = λ k. Faulty k found.member.value in
       subst P (sym found.key_is) (subst (Faulty key) (sym found.value_is) faulty)
 
-  none_faulty : ((k : ℕ) (m : Member) → slice_get members k ≡ Some m → ¬ (IsFaulty Faulty m))
+  none_faulty : ((k : ℕ) (m : Member) → slice_get members k ≡ Some m → ¬ (HasFault Faulty m))
       → Finds (view.Object members) (AtMember Faulty (view.Object members)) None
   none_faulty none [] h = h
   none_faulty none (step.Item index ∷ place) h = h
@@ -45,7 +45,7 @@ module _ (Faulty : List ℕ → Json → Type 0) (members : List Member) where
       none at.1.index at.1.member at.1.at (named_there key at.0 at.1 at.2)
 
   module _ (i : ℕ) (m : Member) (at : slice_get members i ≡ Some m) (different : HaveDifferentKeys members)
-      (none : NoneBefore (IsFaulty Faulty) members i)
+      (none : NoneBefore (HasFault Faulty) members i)
     where
       part_is : part (view.Object members) (step.Member m.key) ≡ Some m.value
       part_is = ap (value_of m.key) (members_of_object members) ∙ value_at members i m different at
@@ -64,7 +64,7 @@ module _ (Faulty : List ℕ → Json → Type 0) (members : List Member) where
       others (step.Item index ∷ rest) h = absurd h
       others (step.Member key ∷ rest) h =
           let found = there key h.1 in
-          let names : IsFaulty Faulty found.1.member = named_there key found.0 found.1 found.2 in
+          let names : HasFault Faulty found.1.member = named_there key found.0 found.1 found.2 in
           let its : index_of_part (view.Object members) (step.Member key) ≡ found.1.index =
           ap (index_of key) (members_of_object members) ∙ found.1.index_is in (
             step.Member key,
@@ -82,7 +82,7 @@ module _ (Faulty : List ℕ → Json → Type 0) (members : List Member) where
                       let equal : found.1.member ≡ m = let both : Some found.1.member ≡ Some m = sym here ∙ at in cc in
                       inl (
                         ap step.Member (sym found.1.key_is ∙ ap (λ n. n.key) equal),
-                        (h.0, subst (IsFaulty Faulty) equal names),
+                        (h.0, subst (HasFault Faulty) equal names),
                       )
                 ]
               ],
@@ -107,12 +107,12 @@ SaysAt Faulty members found = HasNoRepeatedKey (view.Object members)
     → Finds (view.Object members) (AtMember Faulty (view.Object members)) found
 
 module _ (Faulty : List ℕ → Json → Type 0) (members : List Member) (i : ℕ) where
-  pub no_more_faulty : length members ≤ i → NoneBefore (IsFaulty Faulty) members i → SaysAt Faulty members None
+  pub no_more_faulty : length members ≤ i → NoneBefore (HasFault Faulty) members i → SaysAt Faulty members None
   no_more_faulty all none keys = none_faulty Faulty members
-      (λ k m is. none_at_all (IsFaulty Faulty) members i k m all none is)
+      (λ k m is. none_at_all (HasFault Faulty) members i k m all none is)
 
   pub found_faulty : (m : Member) → i < length members → m ≡ get_or members i m
-      → NoneBefore (IsFaulty Faulty) members i → Faulty m.key m.value → (key : List ℕ) (new : List Step) → key ≡ m.key
+      → NoneBefore (HasFault Faulty) members i → Faulty m.key m.value → (key : List ℕ) (new : List Step) → key ≡ m.key
       → new ≡ step.Member key ∷ [] → SaysAt Faulty members (Some new)
   found_faulty m within read none faulty key new key_is new_is keys =
       let R : List Step → Type 0 =

@@ -1,5 +1,5 @@
 -- Where a relation isn't given, a rule is broken.
-use Rattle.std.proofs.Common.{◌≡◌, ℕ, ◌⊎◌, inl, inr, Bool, true, false, ◌||◌, List, [], ◌∷◌, Option, Some, None, is_some, codes, refl, sym, ◌∙◌, ap, subst, ⊎_elim}
+use Rattle.std.proofs.Common.{◌≡◌, ℕ, inl, inr, true, false, List, [], ◌∷◌, Option, Some, None, is_some, codes, refl, sym, ◌∙◌, ap, subst}
 use Rattle.std.specs.Option.{IsSomeAnd}
 use Rattle.std.specs.Str.{bytes_eq}
 use Rattle.std.proofs.lemmas.Bool.{or_right}
@@ -14,8 +14,8 @@ use Rattle.helix_keywords.specs.FormLaws.{form_of_has, related_has_field, relate
 use Rattle.helix_keywords.specs.Keywords.{field_word}
 use Rattle.helix_places.specs.declared.place.Step.{Step}
 use Rattle.helix_places.specs.declared.place.Step.TheVariants as step
-use Rattle.helix_places.specs.Members.{members_of, value_of, has_key}
-use Rattle.helix_places.specs.PlaceLaws.{and_some, some_and}
+use Rattle.helix_places.specs.Members.{value_of}
+use Rattle.helix_places.specs.PlaceLaws.{and_some}
 use Rattle.helix_places.specs.KeyLaws.{bytes_same}
 use Rattle.helix_places.specs.ViewLaws.{members_of_object}
 use Rattle.helix_profile.specs.declared.field.Field.{Field}
@@ -23,8 +23,7 @@ use Rattle.helix_values.specs.Class.{class_of_kind}
 use Rattle.helix_values.specs.declared.kind.Kind.{Kind}
 use Rattle.helix_references.specs.declared.rule.ReferenceRule.{ReferenceRule}
 use Rattle.helix_references.specs.declared.rule.ReferenceRule.TheVariants as rule
-use Rattle.helix_references.specs.AtMember.{AtMember}
-use Rattle.helix_references.specs.Naming.{index_by, index_in, kind_by, kind_at}
+use Rattle.helix_references.specs.Naming.{index_by, kind_by}
 use Rattle.helix_references.specs.Offsets.{IsFaultyAt, IsFaultyOffset, IsFaultyUnit}
 use Rattle.helix_references.specs.Rules.{Breaks, IsFaulty, IsFaultyIn, IsUnbroken, names_field}
 use Rattle.helix_references.specs.Inner.Refusals.{IsNoOffset, IsRefused}

@@ -1,8 +1,6 @@
 -- A relation that is given is one for its two fields, where no rule is broken.
-use Rattle.std.proofs.Common.{◌≡◌, ◌≢◌, ℕ, zero, suc, ◌+◌, ◌*◌, ◌^◌, ◌<◌, ◌≤◌, ◌⊎◌, inl, inr, ℤ, pos, negsuc, ◌*ℤ◌, nat_abs, unsigned_abs, Bool, true, false, not, ◌&&◌, if◌then◌else◌, List, [], ◌∷◌, length, Option, Some, None, option_map, slice_get, IfSome, codes, position, refl, sym, ◌∙◌, ap, subst, arith}
-use Rattle.std.specs.Option.{IsSomeAnd}
+use Rattle.std.proofs.Common.{◌≡◌, ◌≢◌, ℕ, zero, suc, ◌*◌, ◌^◌, ◌<◌, ◌≤◌, ◌⊎◌, inl, inr, ℤ, pos, negsuc, ◌*ℤ◌, nat_abs, unsigned_abs, Bool, true, false, not, ◌&&◌, if◌then◌else◌, List, [], ◌∷◌, length, Option, Some, None, option_map, slice_get, refl, sym, ◌∙◌, ap, subst, arith}
 use Rattle.std.specs.Str.{bytes_eq}
-use Rattle.std.proofs.lemmas.Bool.{and_from}
 use Rattle.std.proofs.lemmas.Int.{unsigned_abs-mul}
 use Rattle.std.proofs.lemmas.List.Quantifiers.{position-Some}
 use Rattle.helix_json.specs.declared.value.Json.{Json}
@@ -14,14 +12,14 @@ use Rattle.helix_ladders.specs.declared.offset.Offset.{Offset}
 use Rattle.helix_ladders.specs.declared.offset.Offset.TheVariants as offset
 use Rattle.helix_profile.specs.declared.field.Field.{Field}
 use Rattle.helix_profile.specs.Validity.{IsCompareFor, IsOffsetFor}
-use Rattle.helix_values.specs.Class.{Class, booleans, numbers, strings, moments, class_of_kind}
+use Rattle.helix_values.specs.Class.{Class, booleans, numbers, strings, moments}
 use Rattle.helix_values.specs.declared.kind.Kind.{Kind}
 use Rattle.helix_values.specs.declared.kind.Kind.TheVariants as kind
 use Rattle.helix_references.specs.declared.unit.MomentUnit.{MomentUnit}
 use Rattle.helix_references.specs.declared.unit.MomentUnit.TheVariants as unit
 use Rattle.helix_references.specs.Naming.{index_by, index_in, index_named, kind_by, kind_at}
-use Rattle.helix_references.specs.Offsets.{GivesUnits, GivesWhole}
-use Rattle.helix_references.specs.Relations.{GivesOffset, GivesPlain, GivesShift, compare_of, shift_by}
+use Rattle.helix_references.specs.Offsets.{GivesWhole}
+use Rattle.helix_references.specs.Relations.{GivesOffset, GivesPlain, compare_of, shift_by}
 use Rattle.helix_references.specs.Units.{allowed, greatest, is_calendar, is_date, size, unit_in, unit_named}
 use Rattle.helix_references.specs.RefusalLaws.{some_of}
 

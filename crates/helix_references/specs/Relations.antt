@@ -1,5 +1,5 @@
 -- The relation that a constraint gives.
-use Rattle.std.specs.Prelude.{◌≡◌, ℕ, ◌*◌, ◌≤◌, ℤ, pos, ◌*ℤ◌, nat_abs, List, Option, Some, None, IsSomeAnd, codes}
+use Rattle.std.specs.Prelude.{◌≡◌, ◌*◌, ◌≤◌, ℤ, pos, ◌*ℤ◌, nat_abs, List, Option, Some, None, IsSomeAnd, codes}
 use Rattle.helix_json.specs.declared.value.Json.{Json}
 use Rattle.helix_json.specs.declared.value.Member.{Member}
 use Rattle.helix_keywords.specs.Keywords.{field_word}
@@ -12,7 +12,7 @@ use Rattle.helix_profile.specs.declared.field.Field.{Field}
 use Rattle.helix_profile.specs.declared.relation.Compare.{Compare}
 use Rattle.helix_profile.specs.declared.relation.Compare.TheVariants as compare
 use Rattle.helix_profile.specs.declared.relation.Relation.{Relation}
-use Rattle.helix_values.specs.Class.{Class, booleans, numbers, strings, moments, class_of_kind}
+use Rattle.helix_values.specs.Class.{Class, numbers, moments, class_of_kind}
 use Rattle.helix_values.specs.declared.kind.Kind.{Kind}
 use Rattle.helix_references.specs.declared.unit.MomentUnit.{MomentUnit}
 use Rattle.helix_references.specs.declared.unit.MomentUnit.TheVariants as unit

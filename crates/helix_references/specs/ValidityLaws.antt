@@ -1,11 +1,10 @@
 -- A relation that is given is one for its two fields, where no rule is broken.
-use Rattle.std.proofs.Common.{◌≡◌, ◌≢◌, ℕ, ◌<◌, inl, inr, Bool, true, false, not, List, [], ◌∷◌, length, Option, Some, None, slice_get, IfSome, codes, refl, sym, ◌∙◌, ap, subst}
+use Rattle.std.proofs.Common.{◌≡◌, ◌≢◌, ℕ, inl, inr, true, not, List, [], ◌∷◌, Option, Some, slice_get, IfSome, codes, sym, ◌∙◌, ap, subst}
 use Rattle.std.specs.Str.{bytes_eq}
 use Rattle.std.proofs.lemmas.Bool.{and_from, true_from_ne_false}
 use Rattle.helix_json.specs.declared.value.Json.{Json}
 use Rattle.helix_json.specs.declared.value.Json.TheViews as view
 use Rattle.helix_json.specs.declared.value.Member.{Member}
-use Rattle.helix_keywords.specs.declared.form.Form.{Form}
 use Rattle.helix_keywords.specs.declared.form.Form.TheVariants as form
 use Rattle.helix_keywords.specs.declared.keyword.FieldKeyword.{FieldKeyword}
 use Rattle.helix_keywords.specs.Forms.{form_of, has_form}
@@ -18,12 +17,12 @@ use Rattle.helix_profile.specs.declared.field.Field.{Field}
 use Rattle.helix_profile.specs.declared.relation.Compare.{Compare}
 use Rattle.helix_profile.specs.declared.relation.Relation.{Relation}
 use Rattle.helix_profile.specs.Validity.{FieldWith, IsCompareFor, IsOffsetFor, IsRelationFor}
-use Rattle.helix_values.specs.Class.{Class, class_of_kind}
+use Rattle.helix_values.specs.Class.{class_of_kind}
 use Rattle.helix_values.specs.declared.kind.Kind.{Kind}
 use Rattle.helix_references.specs.declared.rule.ReferenceRule.TheVariants as rule
 use Rattle.helix_references.specs.Naming.{index_by, index_in, kind_by, kind_in}
-use Rattle.helix_references.specs.Relations.{GivesOffset, GivesRelation, compare_of}
-use Rattle.helix_references.specs.Rules.{AreOne, AreUnlike, Breaks, IsFaulty, IsUnbroken, is_misused, is_relation_key}
+use Rattle.helix_references.specs.Relations.{GivesOffset, GivesRelation}
+use Rattle.helix_references.specs.Rules.{AreOne, AreUnlike, IsFaulty, IsUnbroken, is_misused, is_relation_key}
 use Rattle.helix_references.specs.RefusalLaws.{broken_at, form_is, operand_value}
 use Rattle.helix_references.specs.RelationLaws.{NamedField, named_field, one_or_not, compare_for, offset_range}
 

@@ -1,5 +1,5 @@
 -- A text is one number at most.
-use Rattle.std.proofs.Common.{◌≡◌, ◌≢◌, ℕ, ◌+◌, ◌≤◌, ℤ, List, [], ◌∷◌, ◌++◌, length, Bool, true, false, inl, inr, refl, sym, ap, ◌∙◌, subst, arith}
+use Rattle.std.proofs.Common.{◌≡◌, ℕ, ◌+◌, ◌≤◌, ℤ, List, [], ◌∷◌, ◌++◌, length, Bool, true, false, refl, sym, ap, ◌∙◌, subst, arith}
 use Rattle.helix_json.specs.Numbers.{IsWhole, NumberParts, SpellsNumber, Exponent, no_exponent, power, plus, minus, no_sign, IsExponent, fraction_text, exponent_text, minus_text, digits_value, signed, IsUnits}
 use Rattle.helix_base.specs.Digits.{AreDigits}
 use Rattle.helix_base.specs.Inner.DigitLaws.{digit_bounds}

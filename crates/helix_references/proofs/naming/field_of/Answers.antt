@@ -1,4 +1,4 @@
-use Rattle.std.proofs.Common.{ℕ, Option, is_some, ◌∙◌, ap}
+use Rattle.std.proofs.Common.{ℕ, is_some, ◌∙◌, ap}
 use Rattle.helix_references.specs.Naming.{index_by}
 use Rattle.helix_references.specs.AtomLaws.{has_field}
 use Rattle.helix_references.proofs.naming.field_of.Goals as goal
