@@ -8,7 +8,7 @@ use Rattle.helix_json.specs.declared.value.Json.{Json}
 use Rattle.helix_json.specs.declared.value.Json as json
 use Rattle.helix_keywords.specs.declared.keyword.Keyword.{Keyword}
 use Rattle.helix_keywords.specs.declared.keyword.Keyword.TheVariants as keyword
-use Rattle.helix_operands.specs.ForClass.{is_for, moment_class, number_class, string_class}
+use Rattle.helix_keywords.specs.Keywords.{is_for, moment_class, number_class, string_class}
 use Rattle.helix_operands.specs.Tests.{GivesTest}
 use Rattle.helix_operands.specs.Values.{AreValues, GivesLength, GivesLevel, GivesMembers, GivesPattern, GivesValue, level_named, text_of}
 use Rattle.helix_operands.specs.MadeLaws.{of_made}

@@ -1,5 +1,4 @@
 -- What the public clauses rest on.
-pub mod ForClass
 pub mod Values
 pub mod Tests
 pub mod Rules

@@ -3,7 +3,7 @@ use Rattle.std.specs.Prelude.{◌≡◌, ◌⊎◌, Bool, true, false, ◌==◌,
 use Rattle.helix_json.specs.declared.value.Json.{Json}
 use Rattle.helix_keywords.specs.declared.keyword.Keyword.{Keyword}
 use Rattle.helix_keywords.specs.declared.keyword.Keyword.TheVariants as keyword
-use Rattle.helix_operands.specs.ForClass.{ladder_class}
+use Rattle.helix_keywords.specs.Keywords.{is_for}
 use Rattle.helix_operands.specs.Values.{has_type, GivesValue, GivesLevel, GivesLength, GivesPattern, max_members}
 use Rattle.helix_operands.specs.declared.rule.OperandRule.{OperandRule}
 use Rattle.helix_operands.specs.declared.rule.OperandRule.TheVariants as rule
@@ -20,7 +20,7 @@ has_grid_type numbers v = has_type numbers v
 has_grid_type moments v = has_type moments v
 has_grid_type other v = false
 
--- the JSON type that a keyword asks for; `granularTo` asks for none where there are no grids
+-- the JSON type that a keyword asks for; `granularTo` asks for none of a class that it isn't for
 abbrev pub has_operand_type : Class → Keyword → Json → Bool
 has_operand_type class keyword.EqualTo v = has_type class v
 has_operand_type class keyword.InSet v = is_list v || is_string v
@@ -38,7 +38,7 @@ has_operand_type class keyword.After v = has_type moments v
 has_operand_type class keyword.AfterOrAt v = has_type moments v
 has_operand_type class keyword.Before v = has_type moments v
 has_operand_type class keyword.BeforeOrAt v = has_type moments v
-has_operand_type class keyword.GranularTo v = not (ladder_class class) || has_grid_type class v
+has_operand_type class keyword.GranularTo v = not (is_for keyword.GranularTo class) || has_grid_type class v
 
 -- S11: the operand has another JSON type
 abbrev pub HasWrongType : Kind → Keyword → Json → Type 0

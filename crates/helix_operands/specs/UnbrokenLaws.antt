@@ -7,7 +7,7 @@ use Rattle.helix_keywords.specs.declared.keyword.Keyword.{Keyword}
 use Rattle.helix_keywords.specs.declared.keyword.Keyword.TheVariants as keyword
 use Rattle.helix_operands.specs.Inner.Members.{HoldsAt, members_under}
 use Rattle.helix_operands.specs.MadeLaws.{none_given}
-use Rattle.helix_operands.specs.ForClass.{is_for, ladder_class}
+use Rattle.helix_keywords.specs.Keywords.{is_for}
 use Rattle.helix_operands.specs.Rules.{IsFaulty, IsFaultyMember, InMembers, IsUnbroken, Lacks, has_grid_type, has_operand_type}
 use Rattle.helix_operands.specs.Tests.{GivesTest, Makes, names_set_file}
 use Rattle.helix_operands.specs.Values.{AreValues, GivesLength, GivesLevel, GivesMembers, GivesPattern, GivesValue, Reads, has_type, max_members}
@@ -99,7 +99,6 @@ given_by kind k v broken Given make faulty unbroken none =
 
 test_given : (kind : Kind) (k : Keyword) (v : Json) → is_for k (class_of_kind kind) ≡ true → IsUnbroken kind k v
     → names_set_file k v ≡ false → ((t : Test) → ¬ (GivesTest kind k v t)) → ⊥
-unfolding is_for
 test_given kind keyword.EqualTo v is unbroken file none =
     given_by kind keyword.EqualTo v rule.Value (GivesValue kind v) test.EqualTo (λ lacks. lacks) unbroken none
 test_given kind keyword.InSet v is unbroken file none =
@@ -136,7 +135,7 @@ test_given kind keyword.BeforeOrAt v is unbroken file none =
     given_by kind keyword.BeforeOrAt v rule.Value (GivesValue kinds.DateTime v) test.AtMost (λ lacks. lacks) unbroken none
 test_given kind keyword.GranularTo v is unbroken file none =
     let typed_so : has_grid_type (class_of_kind kind) v ≡ true =
-    grid_typed (ladder_class (class_of_kind kind)) (has_grid_type (class_of_kind kind) v) is
+    grid_typed (is_for keyword.GranularTo (class_of_kind kind)) (has_grid_type (class_of_kind kind) v) is
     (typed kind keyword.GranularTo v unbroken) in
     not_faulty kind keyword.GranularTo v unbroken rule.Grid
     (typed_so, none_given (GivesLevel (class_of_kind kind) v) test.OnGrid none)

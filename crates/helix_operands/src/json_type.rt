@@ -1,7 +1,6 @@
 //! JSON types of operands.
 
 ghost use Rattle.std.specs.Prelude.{◌≡◌};
-ghost use Rattle.helix_operands.specs.ForClass.{ladder_class};
 ghost use Rattle.helix_operands.specs.Rules.{has_grid_type, has_operand_type};
 ghost use Rattle.helix_operands.specs.Values.{has_type};
 ghost use Rattle.helix_places.specs.Members.{is_list, is_string};
@@ -70,21 +69,6 @@ pub fn has_type(kind: Kind, json: &Json) -> bool
     }
 }
 
-/// Whether a kind's values lie on a ladder of grids.
-fn has_ladder(kind: Kind) -> bool
-    ensures { result ≡ ladder_class (class_of_kind kind) }
-{
-    match kind {
-        Kind::Boolean => false,
-        Kind::Integer => true,
-        Kind::Decimal => true,
-        Kind::Text(_) => false,
-        Kind::Date => true,
-        Kind::DateTime => true,
-        Kind::Code(_) => false,
-    }
-}
-
 /// Whether a JSON value has the type in which a grid of a kind's ladder is named.
 pub fn has_grid_type(kind: Kind, json: &Json) -> bool
     ensures { result ≡ has_grid_type (class_of_kind kind) json.now }
@@ -115,6 +99,6 @@ pub fn has_operand_type(kind: Kind, keyword: Keyword, operand: &Json) -> bool
         Keyword::After | Keyword::AfterOrAt | Keyword::Before | Keyword::BeforeOrAt => is_string(
             operand,
         ),
-        Keyword::GranularTo => !has_ladder(kind) || has_grid_type(kind, operand),
+        Keyword::GranularTo => !keyword.is_for_kind(kind) || has_grid_type(kind, operand),
     }
 }

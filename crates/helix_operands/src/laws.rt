@@ -3,7 +3,7 @@
 ghost use Rattle.std.specs.Prelude.{◌≡◌, Option, IsSome, false, true};
 ghost use Rattle.helix_json.specs.declared.value.Json.{Json as Value};
 ghost use Rattle.helix_keywords.specs.declared.keyword.Keyword.{Keyword as Word};
-ghost use Rattle.helix_operands.specs.ForClass.{is_for};
+ghost use Rattle.helix_keywords.specs.Keywords.{is_for};
 ghost use Rattle.helix_operands.specs.Rules.{IsUnbroken};
 ghost use Rattle.helix_operands.specs.Tests.{GivesTest, names_set_file};
 ghost use Rattle.helix_operands.specs.Values.{Reads};
