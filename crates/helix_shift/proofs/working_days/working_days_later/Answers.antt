@@ -1,0 +1,11 @@
+use Rattle.std.proofs.Common.{◌≡◌, ◌+◌, ◌-◌, sym, ap, subst, ◌∙◌, arith}
+use Rattle.std.proofs.lemmas.Int.{ints}
+use Rattle.helix_ladders.specs.Calendar.{midnight}
+use Rattle.helix_shift.specs.WorkingDayLaws.{IsWorkingDayAt, later_is}
+use Rattle.helix_shift.proofs.working_days.working_days_later.Goals as goal
+
+pub returns : goal.returns
+returns c =
+    let at = subst (λ before. IsWorkingDayAt (before + (c.args.count - 1)) c.working_day-later.result)
+    c.working_days_before.ensures.value c.working_day-later.ensures in
+    rw (later_is c.args.count c.args.day c.working_day-later.result c.requires.from_1 at) (omega (arith, ints))
