@@ -19,232 +19,197 @@ fn at(rt: &impl Abort, (year, month, day): (u32, u32, u32)) -> i128 {
     i128::from(day_number(year, month, day)) * DAY
 }
 
-fn months(rt: &impl Abort, count: i64) -> DayShift {
-    assert!(rt; -119_988 <= count && count <= 119_988);
-    DayShift::new(Offset::Months(count))
+/// So many milliseconds later.
+fn after(rt: &impl Abort, moment: i128, millis: i128) -> i128 {
+    assert!(rt; 0 <= moment && moment <= LAST);
+    assert!(rt; 0 <= millis && millis <= LAST);
+    moment + millis
 }
 
-fn years(rt: &impl Abort, count: i64) -> DayShift {
-    assert!(rt; -9_999 <= count && count <= 9_999);
-    DayShift::new(Offset::Years(count))
+fn shift_by(rt: &impl Abort, offset: Offset) -> DayShift {
+    match offset {
+        Offset::Plain(_) => panic!(rt; "an offset by units"),
+        Offset::Months(count) => assert!(rt; -119_988 <= count && count <= 119_988),
+        Offset::Years(count) => assert!(rt; -9_999 <= count && count <= 9_999),
+        Offset::WorkingDays(count) => assert!(rt; -3_652_059 <= count && count <= 3_652_059),
+    }
+    DayShift::new(offset)
 }
 
-fn working_days(rt: &impl Abort, count: i64) -> DayShift {
-    assert!(rt; -3_652_059 <= count && count <= 3_652_059);
-    DayShift::new(Offset::WorkingDays(count))
+/// What a moment is shifted to.
+fn apply(rt: &impl Abort, offset: Offset, moment: i128) -> i128 {
+    assert!(rt; 0 <= moment && moment <= LAST);
+    shift_by(rt, offset).apply(moment)
 }
 
-fn apply(rt: &impl Abort, shift: DayShift, value: i128) -> i128 {
-    assert!(rt; 0 <= value && value <= LAST);
-    shift.apply(value)
+fn least_from(rt: &impl Abort, offset: Offset, target: i128) -> Option<i128> {
+    shift_by(rt, offset).least_from(target)
 }
 
 #[test]
 fn months_and_years_are_shifted(rt: HostRuntime) {
     let cases = [
-        ((2024, 1, 31), 1, (2024, 2, 29)),
-        ((2023, 1, 31), 1, (2023, 2, 28)),
-        ((2024, 1, 29), 1, (2024, 2, 29)),
-        ((2024, 2, 29), 1, (2024, 3, 29)),
-        ((2024, 3, 31), -1, (2024, 2, 29)),
-        ((2024, 1, 15), -1, (2023, 12, 15)),
-        ((2024, 1, 15), 0, (2024, 1, 15)),
-        ((2024, 2, 29), 12, (2025, 2, 28)),
-        ((2024, 2, 29), -48, (2020, 2, 29)),
-        ((1, 1, 1), 119_987, (9999, 12, 1)),
-        ((9999, 12, 31), -119_987, (1, 1, 31)),
+        (Offset::Months(1), (2024, 1, 31), (2024, 2, 29)),
+        (Offset::Months(1), (2023, 1, 31), (2023, 2, 28)),
+        (Offset::Months(1), (2024, 1, 29), (2024, 2, 29)),
+        (Offset::Months(1), (2024, 2, 29), (2024, 3, 29)),
+        (Offset::Months(-1), (2024, 3, 31), (2024, 2, 29)),
+        (Offset::Months(-1), (2024, 1, 15), (2023, 12, 15)),
+        (Offset::Months(0), (2024, 1, 15), (2024, 1, 15)),
+        (Offset::Months(119_987), (1, 1, 1), (9999, 12, 1)),
+        (Offset::Months(-119_987), (9999, 12, 31), (1, 1, 31)),
+        (Offset::Years(1), (2024, 2, 29), (2025, 2, 28)),
+        (Offset::Years(-1), (2024, 2, 29), (2023, 2, 28)),
+        (Offset::Years(-4), (2024, 2, 29), (2020, 2, 29)),
+        (Offset::Years(0), (2024, 2, 29), (2024, 2, 29)),
+        (Offset::Years(9_998), (1, 12, 31), (9999, 12, 31)),
     ];
-    for (from, count, to) in cases {
-        let shift = months(&rt, count);
+    for (offset, from, to) in cases {
+        let late = after(&rt, at(&rt, from), DAY - 1);
         assert_eq!(rt;
-            apply(&rt, shift, at(&rt, from)),
+            apply(&rt, offset, late),
             at(&rt, to),
-            "{from:?} and {count}"
+            "{offset:?} of {from:?}"
         );
-        if count % 12 == 0 {
-            let shift = years(&rt, count / 12);
-            assert_eq!(rt;
-                apply(&rt, shift, at(&rt, from) + 7),
-                at(&rt, to),
-                "{from:?} and {count}"
-            );
-        }
     }
 }
 
-// Days of January 2024, whose first is a Monday; 2023-12-29 is -2.
+// Days of January 2024, whose first is a Monday, and the day that is as many working days earlier.
 #[test]
 fn working_days_are_shifted(rt: HostRuntime) {
     let cases = [
-        (1, 1, 2, -2),
-        (2, 1, 3, 1),
-        (3, 1, 4, 2),
-        (4, 1, 5, 3),
-        (5, 1, 8, 4),
-        (6, 1, 8, 5),
-        (7, 1, 8, 5),
-        (8, 1, 9, 5),
-        (5, 5, 12, -2),
-        (6, 5, 12, 1),
-        (8, 6, 16, -2),
-        (10, 0, 10, 10),
-        (13, 0, 13, 13),
+        (1, 1, (2024, 1, 2), (2023, 12, 29)),
+        (2, 1, (2024, 1, 3), (2024, 1, 1)),
+        (3, 1, (2024, 1, 4), (2024, 1, 2)),
+        (4, 1, (2024, 1, 5), (2024, 1, 3)),
+        (5, 1, (2024, 1, 8), (2024, 1, 4)),
+        (6, 1, (2024, 1, 8), (2024, 1, 5)),
+        (7, 1, (2024, 1, 8), (2024, 1, 5)),
+        (8, 1, (2024, 1, 9), (2024, 1, 5)),
+        (5, 5, (2024, 1, 12), (2023, 12, 29)),
+        (6, 5, (2024, 1, 12), (2024, 1, 1)),
+        (8, 6, (2024, 1, 16), (2023, 12, 29)),
+        (10, 0, (2024, 1, 10), (2024, 1, 10)),
+        (13, 0, (2024, 1, 13), (2024, 1, 13)),
     ];
-    let before = at(&rt, (2023, 12, 31));
     for (day, count, later, earlier) in cases {
-        let from = before + day * DAY;
-        let forth = apply(&rt, working_days(&rt, count), from);
-        let back = apply(&rt, working_days(&rt, -count), from + DAY - 1);
-        assert_eq!(rt; forth, before + later * DAY, "{day} and {count}");
-        assert_eq!(rt; back, before + earlier * DAY, "{day} and -{count}");
+        let late = after(&rt, at(&rt, (2024, 1, day)), DAY - 1);
+        let forth = apply(&rt, Offset::WorkingDays(count), late);
+        let back = apply(&rt, Offset::WorkingDays(0 - count), late);
+        assert_eq!(rt; forth, at(&rt, later), "{day} and {count}");
+        assert_eq!(rt; back, at(&rt, earlier), "{day} and -{count}");
     }
 }
 
 #[test]
 fn shifts_leave_the_calendar(rt: HostRuntime) {
-    let last = LAST + 1 - DAY;
-    for count in [1, 11, 9_999] {
-        assert_eq!(rt;
-            apply(&rt, years(&rt, count), last),
-            AFTER_ALL,
-            "{count} years"
-        );
-        assert_eq!(rt;
-            apply(&rt, months(&rt, 12 * count), last),
-            AFTER_ALL,
-            "{count} years"
-        );
-        assert_eq!(rt;
-            apply(&rt, working_days(&rt, 300 * count), last),
-            AFTER_ALL,
-            "{count}"
-        );
-        assert_eq!(rt;
-            apply(&rt, years(&rt, -count), 0),
-            BEFORE_ALL,
-            "-{count} years"
-        );
-        assert_eq!(rt;
-            apply(&rt, months(&rt, -12 * count), 0),
-            BEFORE_ALL,
-            "-{count} years"
-        );
-        assert_eq!(rt;
-            apply(&rt, working_days(&rt, -300 * count), 0),
-            BEFORE_ALL,
-            "-{count}"
-        );
-        assert_eq!(rt; years(&rt, count).least_from(BEFORE_ALL), Some(0));
-        assert_eq!(rt; years(&rt, -count).least_from(AFTER_ALL), None);
-        assert_eq!(rt; years(&rt, count).least_from(AFTER_ALL + 1), None);
+    let last = at(&rt, (9999, 12, 31));
+    let cases = [
+        (Offset::Months(1), Offset::Months(-1)),
+        (Offset::Months(119_988), Offset::Months(-119_988)),
+        (Offset::Years(1), Offset::Years(-1)),
+        (Offset::Years(9_999), Offset::Years(-9_999)),
+        (Offset::WorkingDays(1), Offset::WorkingDays(-1)),
+        (
+            Offset::WorkingDays(3_652_059),
+            Offset::WorkingDays(-3_652_059),
+        ),
+    ];
+    for (forth, back) in cases {
+        assert_eq!(rt; apply(&rt, forth, last), AFTER_ALL, "{forth:?}");
+        assert_eq!(rt; apply(&rt, back, 0), BEFORE_ALL, "{back:?}");
+        assert_eq!(rt; least_from(&rt, forth, BEFORE_ALL), Some(0), "{forth:?}");
+        assert_eq!(rt; least_from(&rt, forth, i128::MAX), None, "{forth:?}");
+        assert_eq!(rt; least_from(&rt, back, i128::MIN), Some(0), "{back:?}");
+        assert_eq!(rt; least_from(&rt, back, AFTER_ALL), None, "{back:?}");
     }
     assert_eq!(rt;
-        months(&rt, 1).least_from(AFTER_ALL),
+        least_from(&rt, Offset::Months(1), AFTER_ALL),
         Some(at(&rt, (9999, 12, 1)))
     );
-    assert_eq!(rt; working_days(&rt, 1).least_from(AFTER_ALL), Some(last));
-    assert_eq!(rt; months(&rt, 0).least_from(AFTER_ALL), None);
-    assert_eq!(rt; months(&rt, -1).least_from(0), Some(at(&rt, (1, 2, 1))));
-    assert_eq!(rt; months(&rt, -1).least_from(i128::MAX), None);
-    assert_eq!(rt; months(&rt, -1).least_from(i128::MIN), Some(0));
+    assert_eq!(rt;
+        least_from(&rt, Offset::WorkingDays(1), AFTER_ALL),
+        Some(last)
+    );
+    assert_eq!(rt; least_from(&rt, Offset::Months(0), AFTER_ALL), None);
+    assert_eq!(rt;
+        least_from(&rt, Offset::Months(-1), 0),
+        Some(at(&rt, (1, 2, 1)))
+    );
 }
 
 #[test]
 fn the_least_day_is_found(rt: HostRuntime) {
     let cases = [
-        ((2024, 2, 29), 1, (2024, 1, 29)),
-        ((2024, 2, 28), 1, (2024, 1, 28)),
-        ((2023, 2, 28), 1, (2023, 1, 28)),
-        ((2024, 3, 30), 1, (2024, 3, 1)),
-        ((2024, 3, 1), 1, (2024, 2, 1)),
-        ((2024, 2, 29), -1, (2024, 3, 29)),
-        ((2024, 2, 29), 0, (2024, 2, 29)),
+        (1, (2024, 2, 29), 0, (2024, 1, 29)),
+        (1, (2024, 2, 29), 1, (2024, 2, 1)),
+        (1, (2024, 2, 28), 0, (2024, 1, 28)),
+        (1, (2023, 2, 28), 0, (2023, 1, 28)),
+        (1, (2024, 3, 30), 0, (2024, 3, 1)),
+        (1, (2024, 3, 1), 0, (2024, 2, 1)),
+        (-1, (2024, 2, 29), 0, (2024, 3, 29)),
+        (0, (2024, 2, 29), 0, (2024, 2, 29)),
     ];
-    for (target, count, want) in cases {
-        let shift = months(&rt, count);
-        assert_eq!(rt;
-            shift.least_from(at(&rt, target)),
-            Some(at(&rt, want)),
-            "{target:?} and {count}"
-        );
-    }
-    let shift = months(&rt, 1);
-    let past = at(&rt, (2024, 2, 29)) + 1;
-    assert_eq!(rt; shift.least_from(past), Some(at(&rt, (2024, 2, 1))));
-}
-
-/// Whether each target from a day on for `days` days has the least day that a plain scan from the
-/// day `low` finds, and each day the result of the plain shift.
-fn scans(rt: &impl Abort, offset: Offset, shift: DayShift, low: i128, target: i128, days: u32) {
-    let mut least = low;
-    for step in 0..days {
-        let wanted = target + i128::from(step) * (DAY / 2);
-        for _ in 0..200 {
-            assert!(rt; 0 <= least && least <= LAST);
-            let moved = shift.apply(least);
-            assert_eq!(rt; moved, plainly(offset, least), "{offset:?} of {least}");
-            if moved >= wanted {
-                break;
-            }
-            least += DAY;
-        }
-        assert_eq!(rt;
-            shift.least_from(wanted),
-            Some(least),
-            "{offset:?} to {wanted}"
-        );
+    for (count, target, time, want) in cases {
+        let target = after(&rt, at(&rt, target), time);
+        let least = least_from(&rt, Offset::Months(count), target);
+        assert_eq!(rt; least, Some(at(&rt, want)), "{target} and {count}");
     }
 }
 
-fn plainly(offset: Offset, value: i128) -> i128 {
+/// So many half days later.
+fn halves_after(rt: &impl Abort, moment: i128, halves: u32) -> i128 {
+    after(rt, moment, DAY / 2 * i128::from(halves))
+}
+
+fn plainly(rt: &impl Abort, offset: Offset, moment: i128) -> i128 {
     match offset {
-        Offset::Plain(_) => value,
-        _ => shifted(offset, value),
+        Offset::Plain(_) => panic!(rt; "an offset by units"),
+        Offset::Months(count) => shifted(Offset::Months(count), moment),
+        Offset::Years(count) => shifted(Offset::Years(count), moment),
+        Offset::WorkingDays(count) => shifted(Offset::WorkingDays(count), moment),
     }
+}
+
+/// The least day from 2024-01-01 on that the plain shift moves to the target or beyond.
+fn scanned(rt: &impl Abort, offset: Offset, target: i128) -> i128 {
+    let mut day = at(rt, (2024, 1, 1));
+    for _ in 0..200 {
+        if plainly(rt, offset, day) >= target {
+            return day;
+        }
+        day = after(rt, day, DAY);
+    }
+    day
 }
 
 #[test]
 fn scans_agree(rt: HostRuntime) {
-    let low = at(&rt, (2024, 1, 1));
     let cases = [
-        (1, (2024, 2, 2)),
-        (-1, (2023, 12, 2)),
-        (13, (2025, 2, 2)),
-        (0, (2024, 1, 2)),
-        (-11, (2023, 2, 2)),
+        (Offset::Months(1), (2024, 2, 2), 180),
+        (Offset::Months(-1), (2023, 12, 2), 180),
+        (Offset::Months(13), (2025, 2, 2), 180),
+        (Offset::Months(0), (2024, 1, 2), 20),
+        (Offset::Years(-1), (2023, 1, 2), 180),
+        (Offset::WorkingDays(1), (2024, 1, 3), 60),
+        (Offset::WorkingDays(-1), (2023, 12, 30), 60),
+        (Offset::WorkingDays(7), (2024, 1, 11), 60),
+        (Offset::WorkingDays(0), (2024, 1, 2), 20),
     ];
-    for (count, target) in cases {
-        scans(
-            &rt,
-            Offset::Months(count),
-            months(&rt, count),
-            low,
-            at(&rt, target),
-            200,
-        );
+    for (offset, from, halves) in cases {
+        for half in 0..halves {
+            let target = halves_after(&rt, at(&rt, from), half);
+            let least = scanned(&rt, offset, target);
+            assert_eq!(rt;
+                least_from(&rt, offset, target),
+                Some(least),
+                "{offset:?} to {target}"
+            );
+            assert_eq!(rt;
+                apply(&rt, offset, least),
+                plainly(&rt, offset, least),
+                "{offset:?}"
+            );
+        }
     }
-    let cases = [
-        (1, (2024, 1, 3)),
-        (-1, (2023, 12, 30)),
-        (7, (2024, 1, 11)),
-        (0, (2024, 1, 2)),
-    ];
-    for (count, target) in cases {
-        scans(
-            &rt,
-            Offset::WorkingDays(count),
-            working_days(&rt, count),
-            low,
-            at(&rt, target),
-            60,
-        );
-    }
-    scans(
-        &rt,
-        Offset::Years(1),
-        years(&rt, 1),
-        low,
-        at(&rt, (2025, 1, 2)),
-        200,
-    );
 }
