@@ -1,0 +1,6 @@
+-- what public clauses rest on
+pub mod Related
+pub mod Bounds
+pub mod Exclusion
+pub mod BoundLaws
+pub mod PairLaws
