@@ -2,5 +2,7 @@
 pub mod Related
 pub mod Bounds
 pub mod Exclusion
+pub mod OffsetShift
 pub mod BoundLaws
 pub mod PairLaws
+pub mod OffsetShiftLaws
