@@ -1,11 +1,14 @@
 //! Laws of bounds, each the contract of a function that does nothing.
 
-ghost use Rattle.std.specs.Prelude.{ℤ, ◌↔◌, ◌≤ℤ◌};
+ghost use Rattle.std.specs.Prelude.{ℤ, ◌≡◌, ◌↔◌, ◌≤ℤ◌};
+ghost use Rattle.std.specs.List.{All};
 ghost use Rattle.helix_pairs.specs.Related.{AreRelated};
 ghost use Rattle.helix_pairs.specs.Bounds.{MeetsLower, MeetsUpper, IsExcluded};
 ghost use Rattle.helix_pairs.specs.declared.comparison.Comparison.{Comparison};
 ghost use Rattle.helix_pairs.specs.declared.comparison.End.{End};
 
+use crate::bound::Bound;
+use crate::range::ValueRange;
 use helix_ladders::Shift;
 
 /// A relation holds exactly where the child meets both bounds and isn't excluded.
@@ -31,4 +34,27 @@ pub fn bounds_rise<S: Shift>(shift: &S)
         → S.low shift.now ≤ℤ v → v ≤ℤ w → w ≤ℤ S.high shift.now
         → MeetsUpper comparison side (S.applied shift.now) p w
         → MeetsUpper comparison side (S.applied shift.now) p v }
+{}
+
+/// All relations of a pair hold exactly where the child meets all bounds and none excludes it.
+pub fn pairs_are_bounds<S: Shift>(bounds: &[Bound<S>])
+    ensures { (p v : ℤ) → All (λ b. AreRelated b.comparison b.child (S.applied b.shift) p v) bounds.now
+        ↔ (All (λ b. MeetsLower b.comparison b.child (S.applied b.shift) p v) bounds.now
+        × All (λ b. MeetsUpper b.comparison b.child (S.applied b.shift) p v) bounds.now
+        × All (λ b. ¬ IsExcluded b.comparison b.child (S.applied b.shift) p v) bounds.now) }
+{}
+
+/// No bound of a pair falls as the parent's value grows, and what is below a child that meets the upper
+/// bounds meets them too.
+pub fn pair_bounds_rise<S: Shift>(bounds: &[Bound<S>], range: ValueRange)
+    requires { All (λ b. (S.low b.shift ≡ range.low) × (S.high b.shift ≡ range.high)) bounds.now }
+    ensures lower { (p q v : ℤ) → range.low ≤ℤ p → p ≤ℤ q → q ≤ℤ range.high
+        → All (λ b. MeetsLower b.comparison b.child (S.applied b.shift) q v) bounds.now
+        → All (λ b. MeetsLower b.comparison b.child (S.applied b.shift) p v) bounds.now }
+    ensures upper { (p q v : ℤ) → range.low ≤ℤ p → p ≤ℤ q → q ≤ℤ range.high
+        → All (λ b. MeetsUpper b.comparison b.child (S.applied b.shift) p v) bounds.now
+        → All (λ b. MeetsUpper b.comparison b.child (S.applied b.shift) q v) bounds.now }
+    ensures below { (p v w : ℤ) → range.low ≤ℤ v → v ≤ℤ w → w ≤ℤ range.high
+        → All (λ b. MeetsUpper b.comparison b.child (S.applied b.shift) p w) bounds.now
+        → All (λ b. MeetsUpper b.comparison b.child (S.applied b.shift) p v) bounds.now }
 {}

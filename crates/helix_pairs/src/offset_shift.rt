@@ -1,6 +1,12 @@
 //! The shift of a range by an offset.
 
-use helix_ladders::{Plain, Shift};
+ghost use Rattle.std.specs.Prelude.{ℤ, ◌≡◌};
+ghost use Rattle.helix_ladders.specs.Shift.{shifted};
+ghost use Rattle.helix_pairs.specs.ShiftOf.{IsShiftOf};
+ghost use Rattle.helix_pairs.specs.OffsetShift.{low_of, high_of, applied_by};
+
+use crate::range::ValueRange;
+use helix_ladders::{Offset, Plain, Shift};
 use helix_shift::DayShift;
 
 /// The shift by an offset of either kind.
@@ -10,6 +16,21 @@ pub enum OffsetShift {
     Sum(Plain),
     /// By months, years or working days.
     Days(DayShift),
+}
+
+impl OffsetShift {
+    /// The shift of a range by an offset.
+    pub fn of(range: ValueRange, offset: Offset) -> OffsetShift
+        requires { IsShiftOf range.low range.high offset }
+        ensures low { low_of result ≡ range.low }
+        ensures high { high_of result ≡ range.high }
+        ensures applied { (v : ℤ) → applied_by result v ≡ shifted offset v }
+    {
+        match offset {
+            Offset::Plain(units) => OffsetShift::Sum(Plain::new(range.low, range.high, units)),
+            _ => OffsetShift::Days(DayShift::new(offset)),
+        }
+    }
 }
 
 impl Shift for OffsetShift {

@@ -1,19 +1,13 @@
 //! What all relations of a parent and a child say together.
 
-ghost use Rattle.std.specs.Prelude.{ℤ, ◌≡◌, ◌↔◌, ◌≤ℤ◌, ◌<ℤ◌, IsTrue, IfSome, IfNone};
-ghost use Rattle.std.specs.List.{All, Any};
+ghost use Rattle.std.specs.Prelude.{◌≡◌, ◌↔◌, ◌≤ℤ◌, IsTrue};
+ghost use Rattle.std.specs.List.{All};
 ghost use Rattle.helix_pairs.specs.Exclusion.{IsExclusion};
 ghost use Rattle.helix_pairs.specs.Bounds.{MeetsLower, MeetsUpper, IsExcluded, AreThoseFrom};
 
 use crate::bound::Bound;
+use crate::range::ValueRange;
 use helix_ladders::Shift;
-
-/// The values of both fields, from the least to the greatest.
-#[derive(Clone, Copy, Debug)]
-pub struct ValueRange {
-    pub low: i128,
-    pub high: i128,
-}
 
 /// The least child that meets all lower bounds.
 pub fn lower<S: Shift>(bounds: &[Bound<S>], range: ValueRange, parent: i128) -> Option<i128>
