@@ -22,12 +22,12 @@ pub those_from_least : (low high : ℤ) (shifted : ℤ → ℤ) (target asked : 
     → AreThoseFrom low high (λ v. target ≤ℤ shifted v) answer
 those_from_least low high shifted target asked None same rises some none =
     λ v from_low to_high reached.
-        none v (record { from_low = from_low; to_high = to_high; reached = omega (arith, ints, same, reached) })
+    none v (record { from_low = from_low; to_high = to_high; reached = omega (arith, ints, same, reached) })
 those_from_least low high shifted target asked (Some r) same rises some none =
     λ v from_low to_high. (
       λ reached.
           some.least v
-              (record { from_low = from_low; to_high = to_high; reached = omega (arith, ints, same, reached) }),
+          (record { from_low = from_low; to_high = to_high; reached = omega (arith, ints, same, reached) }),
       λ later. omega (arith, ints, same, some.has.reached, rises r v some.has.from_low later to_high),
     )
 
@@ -38,8 +38,8 @@ pub those_past : (comparison : Comparison) (low high parent child : ℤ) (shifte
     → AreThoseFrom child high (λ v. ¬ IsExcluded comparison Right shifted parent v) answer
 those_past Different low high parent child shifted None rises from_low excluded none =
     λ v from_child to_high not_excluded.
-        not_excluded (by_lt_z parent (shifted v) (λ above. absurd (none v (omega (arith, ints)) to_high above))
-        (λ not_above. omega (arith, ints, excluded, rises child v from_low from_child to_high)))
+    not_excluded (by_lt_z parent (shifted v) (λ above. absurd (none v (omega (arith, ints)) to_high above))
+    (λ not_above. omega (arith, ints, excluded, rises child v from_low from_child to_high)))
 those_past Different low high parent child shifted (Some r) rises from_low excluded those =
     λ v from_child to_high. (
       λ not_excluded. (those v (omega (arith, ints)) to_high).0 (above v from_child to_high not_excluded),
@@ -92,12 +92,27 @@ module _ (low high : ℤ) (shifted : ℤ → ℤ) (rises : Rises low high shifte
   -- lower bounds don't fall as the parent's value grows: what meets a later one meets the earlier ones
   pub lower_rises : (comparison : Comparison) (side : End) (p q v : ℤ) → low ≤ℤ p → p ≤ℤ q → q ≤ℤ high
       → MeetsLower comparison side shifted q v → MeetsLower comparison side shifted p v
-  lower_rises Equal Left p q v from_low below to_high meets = omega (arith, ints, meets, rises p q from_low below
-      to_high)
-  lower_rises AtLeast Left p q v from_low below to_high meets = omega (arith, ints, meets, rises p q from_low below
-      to_high)
-  lower_rises Above Left p q v from_low below to_high meets = omega (arith, ints, meets, rises p q from_low below
-      to_high)
+  lower_rises Equal Left p q v from_low below to_high meets = omega (
+    arith,
+    ints,
+    meets,
+    rises p q from_low below
+        to_high,
+  )
+  lower_rises AtLeast Left p q v from_low below to_high meets = omega (
+    arith,
+    ints,
+    meets,
+    rises p q from_low below
+        to_high,
+  )
+  lower_rises Above Left p q v from_low below to_high meets = omega (
+    arith,
+    ints,
+    meets,
+    rises p q from_low below
+        to_high,
+  )
   lower_rises Equal Right p q v from_low below to_high meets = omega (arith, ints, meets)
   lower_rises AtMost Right p q v from_low below to_high meets = omega (arith, ints, meets)
   lower_rises Below Right p q v from_low below to_high meets = omega (arith, ints, meets)
@@ -111,12 +126,27 @@ module _ (low high : ℤ) (shifted : ℤ → ℤ) (rises : Rises low high shifte
   -- neither do upper bounds: what meets an earlier one meets the later ones
   pub upper_rises : (comparison : Comparison) (side : End) (p q v : ℤ) → low ≤ℤ p → p ≤ℤ q → q ≤ℤ high
       → MeetsUpper comparison side shifted p v → MeetsUpper comparison side shifted q v
-  upper_rises Equal Left p q v from_low below to_high meets = omega (arith, ints, meets, rises p q from_low below
-      to_high)
-  upper_rises AtMost Left p q v from_low below to_high meets = omega (arith, ints, meets, rises p q from_low below
-      to_high)
-  upper_rises Below Left p q v from_low below to_high meets = omega (arith, ints, meets, rises p q from_low below
-      to_high)
+  upper_rises Equal Left p q v from_low below to_high meets = omega (
+    arith,
+    ints,
+    meets,
+    rises p q from_low below
+        to_high,
+  )
+  upper_rises AtMost Left p q v from_low below to_high meets = omega (
+    arith,
+    ints,
+    meets,
+    rises p q from_low below
+        to_high,
+  )
+  upper_rises Below Left p q v from_low below to_high meets = omega (
+    arith,
+    ints,
+    meets,
+    rises p q from_low below
+        to_high,
+  )
   upper_rises Equal Right p q v from_low below to_high meets = omega (arith, ints, meets)
   upper_rises AtLeast Right p q v from_low below to_high meets = omega (arith, ints, meets)
   upper_rises Above Right p q v from_low below to_high meets = omega (arith, ints, meets)
@@ -133,12 +163,27 @@ module _ (low high : ℤ) (shifted : ℤ → ℤ) (rises : Rises low high shifte
   upper_holds_below Equal Left p v w from_low below to_high meets = omega (arith, ints, meets)
   upper_holds_below AtMost Left p v w from_low below to_high meets = omega (arith, ints, meets)
   upper_holds_below Below Left p v w from_low below to_high meets = omega (arith, ints, meets)
-  upper_holds_below Equal Right p v w from_low below to_high meets = omega (arith, ints, meets, rises v w from_low below
-      to_high)
-  upper_holds_below AtLeast Right p v w from_low below to_high meets = omega (arith, ints, meets, rises v w from_low
-      below to_high)
-  upper_holds_below Above Right p v w from_low below to_high meets = omega (arith, ints, meets, rises v w from_low below
-      to_high)
+  upper_holds_below Equal Right p v w from_low below to_high meets = omega (
+    arith,
+    ints,
+    meets,
+    rises v w from_low below
+        to_high,
+  )
+  upper_holds_below AtLeast Right p v w from_low below to_high meets = omega (
+    arith,
+    ints,
+    meets,
+    rises v w from_low
+        below to_high,
+  )
+  upper_holds_below Above Right p v w from_low below to_high meets = omega (
+    arith,
+    ints,
+    meets,
+    rises v w from_low below
+        to_high,
+  )
   upper_holds_below Different Left p v w from_low below to_high meets = meets
   upper_holds_below Above Left p v w from_low below to_high meets = meets
   upper_holds_below AtLeast Left p v w from_low below to_high meets = meets

@@ -4,6 +4,7 @@ pub mod Bounds
 pub mod Exclusion
 pub mod OffsetShift
 pub mod ShiftOf
+-- why bounds are exact, and what the crates above cite of them
 pub mod BoundLaws
-pub mod PairLaws
 pub mod OffsetShiftLaws
+pub mod RuleLaws

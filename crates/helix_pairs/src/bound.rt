@@ -25,7 +25,11 @@ impl<S: Shift> Bound<S> {
         ensures child { result.child ≡ child }
         ensures shift { result.shift ≡ shift }
     {
-        Bound { comparison, child, shift }
+        Bound {
+            comparison,
+            child,
+            shift,
+        }
     }
 
     /// The least child that meets the lower bound: the range's least where there is no bound.

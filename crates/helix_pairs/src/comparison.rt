@@ -29,11 +29,7 @@ pub enum End {
 pub fn signed(compare: Compare, sign: bool) -> Comparison
     ensures { (x y : ℤ) → Relates result x y ↔ Signed sign (Compares compare x y) }
 {
-    if sign {
-        plus(compare)
-    } else {
-        minus(compare)
-    }
+    if sign { plus(compare) } else { minus(compare) }
 }
 
 fn plus(compare: Compare) -> Comparison

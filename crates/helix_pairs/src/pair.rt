@@ -28,7 +28,12 @@ pub fn lower<S: Shift>(bounds: &[Bound<S>], range: ValueRange, parent: i128) -> 
 }
 
 /// Whether a child meets all upper bounds.
-pub fn passes_upper<S: Shift>(bounds: &[Bound<S>], range: ValueRange, parent: i128, child: i128) -> bool
+pub fn passes_upper<S: Shift>(
+    bounds: &[Bound<S>],
+    range: ValueRange,
+    parent: i128,
+    child: i128,
+) -> bool
     requires range { All (λ b. (S.low b.shift ≡ range.low) × (S.high b.shift ≡ range.high)) bounds.now }
     requires parent_from_low { range.low ≤ℤ parent }
     requires parent_to_high { parent ≤ℤ range.high }
@@ -75,7 +80,12 @@ pub enum Exclusion {
 }
 
 /// What one of the relations that excludes a child excludes from it on.
-pub fn excludes<S: Shift>(bounds: &[Bound<S>], range: ValueRange, parent: i128, child: i128) -> Exclusion
+pub fn excludes<S: Shift>(
+    bounds: &[Bound<S>],
+    range: ValueRange,
+    parent: i128,
+    child: i128,
+) -> Exclusion
     requires range { All (λ b. (S.low b.shift ≡ range.low) × (S.high b.shift ≡ range.high)) bounds.now }
     requires parent_from_low { range.low ≤ℤ parent }
     requires parent_to_high { parent ≤ℤ range.high }

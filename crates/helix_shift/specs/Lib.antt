@@ -1,4 +1,4 @@
--- what public clauses rest on
+-- what public clauses rest on, and why shifts keep the order of moments
 pub mod DayOffset
 pub mod WorkingDayLaws
 pub mod MonthLaws

@@ -8,6 +8,7 @@ use Rattle.std.proofs.lemmas.Bool.Decides.{nat_tests}
 use Rattle.std.proofs.lemmas.Int.{ints}
 use Rattle.helix_ladders.specs.Calendar.{last_below, days_of_calendar, midnight}
 use Rattle.helix_ladders.specs.Shift.{after_all, before_all, is_working_day, working_days_before, is_working_day_after, is_working_day_ahead, shifted_working_days}
+use Rattle.helix_shift.specs.Inner.Days.{IsWorkingDayAt}
 use Rattle.helix_ladders.proofs.WorkingDays.{working_days-zero, working_days-suc, working_days-le, counts, found_later, none_later, found_earlier, none_earlier}
 
 week_step : (day before : ℕ) → before ≡ 5 * (day / 7) + min (day % 7) 5
@@ -24,15 +25,10 @@ working_days_of_weeks (suc day) =
 pub working_days-le_day : (day : ℕ) → working_days_before day ≤ day
 working_days-le_day day = omega (arith, working_days_of_weeks day)
 
--- the working day before which so many lie
-pub record IsWorkingDayAt (count day : ℕ) : Type 0 where
-  pub working : is_working_day day ≡ true
-  pub before : working_days_before day ≡ count
-
 day_of_week : (count day : ℕ) → day ≡ 7 * (count / 5) + count % 5 → nat_lt (day % 7) 5 ≡ true
 day_of_week count day is = grind (arith, nat_tests)
 
--- there is one for each number
+-- there is a working day with each number of them before it
 pub working_day_at : (count day : ℕ) → day ≡ 7 * (count / 5) + count % 5 → IsWorkingDayAt count day
 working_day_at count day is = record {
   working = day_of_week count day is;

@@ -3,7 +3,7 @@
 ghost use Rattle.std.specs.Prelude.{◌≡◌, ◌<◌, ◌≤◌, ◌^◌, pos, neg_ℤ, unsigned_abs};
 ghost use Rattle.helix_ladders.specs.Calendar.{days_of_calendar};
 ghost use Rattle.helix_ladders.specs.Shift.{working_days_before as working_days_ahead_of, shifted_working_days as working_day_shift};
-ghost use Rattle.helix_shift.specs.WorkingDayLaws.{IsWorkingDayAt};
+ghost use Rattle.helix_shift.specs.Inner.Days.{IsWorkingDayAt};
 
 use helix_ladders::{DAYS, midnight};
 

@@ -1,9 +1,14 @@
--- What days are shifted to.
-use Rattle.std.specs.Prelude.{ℕ, ◌<◌, ℤ, pos, ◌+ℤ◌, ◌*ℤ◌, ◌<ℤ◌, ◌≤ℤ◌}
+-- Working days by their number, and what days are shifted to.
+use Rattle.std.specs.Prelude.{◌≡◌, true, ℕ, ◌<◌, ℤ, pos, ◌+ℤ◌, ◌*ℤ◌, ◌<ℤ◌, ◌≤ℤ◌}
 use Rattle.helix_ladders.specs.Calendar.{days_of_calendar, midnight}
-use Rattle.helix_ladders.specs.Shift.{shifted_months, shifted_working_days}
+use Rattle.helix_ladders.specs.Shift.{is_working_day, working_days_before, shifted_months, shifted_working_days}
 use Rattle.helix_ladders.specs.declared.offset.Offset.{Offset}
 use Rattle.helix_ladders.specs.declared.offset.Offset.TheVariants.{Plain, Months, Years, WorkingDays}
+
+-- the working day before which so many lie
+pub record IsWorkingDayAt (count day : ℕ) : Type 0 where
+  pub working : is_working_day day ≡ true
+  pub before : working_days_before day ≡ count
 
 -- what each moment of a day is shifted to; by units it is the first one
 abbrev pub shifted_day : Offset → ℕ → ℤ

@@ -3,7 +3,7 @@ use Rattle.std.proofs.lemmas.Int.{ints, to_z-of_z}
 use Rattle.std.specs.Int.{w128}
 use Rattle.std.specs.List.{All}
 use Rattle.helix_pairs.specs.Bounds.{IsExcluded, AreThoseFrom}
-use Rattle.helix_pairs.specs.PairLaws.{excluded_by_none_more, excluded_before, excluded_rest}
+use Rattle.helix_pairs.proofs.PairBounds.{excluded_by_none_more, excluded_before, excluded_rest}
 use Rattle.helix_pairs.proofs.pair.excludes.Goals as goal
 
 pub loop-bound-preserved : goal.loop-bound-preserved

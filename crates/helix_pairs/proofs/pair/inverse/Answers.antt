@@ -3,7 +3,7 @@ use Rattle.std.proofs.lemmas.Int.{ints, clamps, to_z-of_z}
 use Rattle.std.specs.Int.{w128}
 use Rattle.std.specs.List.{All}
 use Rattle.helix_pairs.specs.Bounds.{MeetsUpper, AreThoseFrom}
-use Rattle.helix_pairs.specs.PairLaws.{all_from_low, those_from_more, those_from_all}
+use Rattle.helix_pairs.proofs.PairBounds.{all_from_low, those_from_more, those_from_all}
 use Rattle.helix_pairs.proofs.pair.inverse.Goals as goal
 
 pub loop-bound-init : goal.loop-bound-init

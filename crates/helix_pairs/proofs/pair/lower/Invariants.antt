@@ -1,6 +1,6 @@
 use Rattle.std.proofs.Common.{Some}
 use Rattle.helix_pairs.specs.Bounds.{MeetsLower}
-use Rattle.helix_pairs.specs.PairLaws.{AreThoseFromOf}
+use Rattle.helix_pairs.proofs.PairBounds.{AreThoseFromOf}
 use Rattle.helix_pairs.proofs.pair.lower.Given as goal
 
 abbrev pub invariant-loop-bound : goal.invariant-loop-bound

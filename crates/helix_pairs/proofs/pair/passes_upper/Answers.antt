@@ -3,7 +3,7 @@ use Rattle.std.proofs.lemmas.Int.{to_z-of_z}
 use Rattle.std.specs.Int.{w128}
 use Rattle.std.specs.List.{All}
 use Rattle.helix_pairs.specs.Bounds.{MeetsUpper}
-use Rattle.helix_pairs.specs.PairLaws.{fails_at, passes_more, passes_all}
+use Rattle.helix_pairs.proofs.PairBounds.{fails_at, passes_more, passes_all}
 use Rattle.helix_pairs.proofs.pair.passes_upper.Goals as goal
 
 pub returns-then-not-passes_upper : goal.returns-then-not-passes_upper

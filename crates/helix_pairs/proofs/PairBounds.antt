@@ -25,18 +25,18 @@ module _ {X : Type 0} (low high : ℤ) (Meets : X → ℤ → Type 0) (xs : List
       → AreThoseFromOf (i + 1) (Some greater)
   those_from_more i x least from greater own_low own_high within read own is those more =
       λ v from_low to_high.
-          let here = more v (omega (arith, ints, own)) (omega (arith, ints, own)) in
-          let before = those v from_low to_high in (
-            λ all.
-                let first : least ≤ℤ v = before.0
-                (AllWithin-upto (λ y. Meets y v) xs 0 (i + 1) i (omega arith) all) in
-                let last : from ≤ℤ v = here.0
-                (subst (λ y. Meets y v) (sym read) (all i x (omega arith) (omega arith))) in
-                omega (arith, ints, clamps, is),
-            λ later.
-                AllWithin-more (λ y. Meets y v) xs 0 i (before.1 (omega (arith, ints, clamps, is)))
-                (at_read xs (λ y. Meets y v) i x within read (here.1 (omega (arith, ints, clamps, is)))),
-          )
+      let here = more v (omega (arith, ints, own)) (omega (arith, ints, own)) in
+      let before = those v from_low to_high in (
+        λ all.
+            let first : least ≤ℤ v = before.0
+            (AllWithin-upto (λ y. Meets y v) xs 0 (i + 1) i (omega arith) all) in
+            let last : from ≤ℤ v = here.0
+            (subst (λ y. Meets y v) (sym read) (all i x (omega arith) (omega arith))) in
+            omega (arith, ints, clamps, is),
+        λ later.
+            AllWithin-more (λ y. Meets y v) xs 0 i (before.1 (omega (arith, ints, clamps, is)))
+            (at_read xs (λ y. Meets y v) i x within read (here.1 (omega (arith, ints, clamps, is)))),
+      )
 
   -- all facts
   pub those_from_all : (count : ℕ) (least : ℤ) → count ≡ length xs → AreThoseFromOf count (Some least)
@@ -53,8 +53,8 @@ module _ {X : Type 0} (low high : ℤ) (Meets : X → ℤ → Type 0) (xs : List
       → AreThoseFrom low high (λ v. All (λ x. Meets x v) xs) None
   those_from_none i x own_low own_high within read own none =
       λ v from_low to_high all.
-          none v (omega (arith, ints, own)) (omega (arith, ints, own))
-              (subst (λ y. Meets y v) (sym read) (all i x within))
+      none v (omega (arith, ints, own)) (omega (arith, ints, own))
+      (subst (λ y. Meets y v) (sym read) (all i x within))
 
 module _ {X : Type 0} (P : X → Type 0) (xs : List X) where
   -- a test of each fact, up to the first that fails
@@ -106,5 +106,5 @@ module _ {X : Type 0} (Excludes : X → ℤ → Type 0) (xs : List X) (high chil
       → IsExclusion (λ v. All (λ y. ¬ Excludes y v) xs) high child Rest
   excluded_rest i x asked own_high within read same own none =
       λ v from_child to_end all.
-          none v (omega (arith, ints, same)) (omega (arith, ints, own))
-              (subst (λ y. ¬ Excludes y v) (sym read) (all i x within))
+      none v (omega (arith, ints, same)) (omega (arith, ints, own))
+      (subst (λ y. ¬ Excludes y v) (sym read) (all i x within))
