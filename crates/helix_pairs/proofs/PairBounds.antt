@@ -1,5 +1,5 @@
 -- Bounds of several relations together.
-use Rattle.std.proofs.Common.{◌≡◌, ℕ, ◌+◌, ◌<◌, ◌≤◌, ℤ, ◌≤ℤ◌, ◌<ℤ◌, List, length, get_or, Option, Some, None, Bool, true, false, IsTrue, ◌↔◌, refl, sym, subst, arith}
+use Rattle.std.proofs.Common.{◌≡◌, ℕ, ◌+◌, ◌<◌, ℤ, ◌≤ℤ◌, List, length, get_or, Option, Some, None, Bool, true, false, IsTrue, ◌↔◌, refl, sym, subst, arith}
 use Rattle.std.specs.Int.{int_max}
 use Rattle.std.specs.List.{All, AllWithin}
 use Rattle.std.proofs.lemmas.Int.{ints, clamps, by_lt_z}

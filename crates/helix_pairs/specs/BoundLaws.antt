@@ -1,5 +1,5 @@
 -- Bounds are all that a relation asks for, and they don't fall.
-use Rattle.std.proofs.Common.{◌≡◌, ◌↔◌, ◌⊎◌, inl, inr, ℤ, ◌<ℤ◌, ◌≤ℤ◌, Option, Some, None, IfSome, IfNone, arith}
+use Rattle.std.proofs.Common.{◌≡◌, ◌↔◌, ℤ, ◌<ℤ◌, ◌≤ℤ◌, Option, Some, None, IfSome, IfNone, arith}
 use Rattle.std.proofs.lemmas.Int.{ints, by_lt_z}
 use Rattle.helix_ladders.specs.Rising.{IsShiftedTo}
 use Rattle.helix_ladders.specs.Scale.{IsLeast}

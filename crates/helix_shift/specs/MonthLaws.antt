@@ -1,14 +1,14 @@
 -- Months counted from January of the year 1, and where a shift by months leads.
-use Rattle.std.proofs.Common.{◌≡◌, ℕ, zero, suc, ◌+◌, ◌-◌, ◌*◌, ◌/◌, ◌%◌, ◌<◌, ◌≤◌, min, ℤ, pos, negsuc, ◌+ℤ◌, ◌≤ℤ◌, cond, refl, ap, sym, subst, ◌∙◌, arith, add-zero}
+use Rattle.std.proofs.Common.{◌≡◌, ℕ, zero, suc, ◌+◌, ◌-◌, ◌*◌, ◌/◌, ◌%◌, ◌<◌, ◌≤◌, min, ℤ, pos, negsuc, ◌+ℤ◌, ◌≤ℤ◌, cond, refl, ap, subst, ◌∙◌, arith, add-zero}
 use Rattle.std.proofs.Common.{⊎_elim}
 use Rattle.std.proofs.lemmas.Bool.{cases_lt, lt-ltb, le-ltb}
 use Rattle.std.proofs.lemmas.Int.{ints}
-use Rattle.helix_ladders.specs.Calendar.{IsDate, days_of_year, days_of_month, year_start, month_start, day_number, year_of, month_of, day_of_month, days_of_calendar, midnight}
+use Rattle.helix_ladders.specs.Calendar.{IsDate, days_of_year, days_of_month, month_start, day_number, year_of, month_of, day_of_month, days_of_calendar, midnight}
 use Rattle.helix_ladders.specs.Shift.{after_all, before_all, month_index, day_in_month, midnight_in_month, shifted_months}
 use Rattle.helix_ladders.proofs.Totals.{sum_up_to-zero, sum_up_to-suc, sum_up_to-next}
 use Rattle.helix_ladders.proofs.GregorianYears.{days_of_months, end_of_calendar}
 use Rattle.helix_ladders.proofs.MonthStarts.{month_bound}
-use Rattle.helix_ladders.proofs.DaysHaveDates.{HasDate, day_has_date}
+use Rattle.helix_ladders.proofs.DaysHaveDates.{day_has_date}
 
 -- the first day of a month
 start_of : ℕ → ℕ

@@ -1,15 +1,13 @@
 -- Where the days and the moments of the calendar are shifted to.
-use Rattle.std.proofs.Common.{◌≡◌, ℕ, ◌+◌, ◌-◌, ◌<◌, ◌≤◌, ℤ, pos, negsuc, ◌<ℤ◌, ◌≤ℤ◌, ◌+ℤ◌, ◌*ℤ◌, Option, Some, None, IfSome, IfNone, refl, sym, subst, arith}
-use Rattle.std.proofs.lemmas.Int.{ints, by_lt_z}
-use Rattle.helix_ladders.specs.Calendar.{days_of_calendar, last_moment, day_of, midnight}
-use Rattle.helix_ladders.specs.Rising.{IsShiftedTo}
-use Rattle.helix_ladders.specs.Scale.{IsLeast}
-use Rattle.helix_ladders.specs.Shift.{after_all, before_all, shifted, IsShiftable}
+use Rattle.std.proofs.Common.{◌≡◌, ℕ, ◌<◌, ◌≤◌, ℤ, pos, negsuc, ◌≤ℤ◌, ◌*ℤ◌, refl, arith}
+use Rattle.std.proofs.lemmas.Int.{ints}
+use Rattle.helix_ladders.specs.Calendar.{days_of_calendar, day_of}
+use Rattle.helix_ladders.specs.Shift.{after_all, before_all, shifted}
 use Rattle.helix_ladders.specs.LadderLaws.{sum_rises}
 use Rattle.helix_ladders.specs.declared.offset.Offset.{Offset}
 use Rattle.helix_ladders.specs.declared.offset.Offset.TheVariants.{Plain, Months, Years, WorkingDays}
 use Rattle.helix_shift.specs.DayOffset.{IsDayOffset}
-use Rattle.helix_shift.specs.Inner.Days.{shifted_day, IsFirstDay, IsOutOfReach}
+use Rattle.helix_shift.specs.Inner.Days.{shifted_day}
 use Rattle.helix_shift.specs.MonthLaws.{months_from, months_to, months_rise}
 use Rattle.helix_shift.specs.WorkingDayLaws.{working_days_from, working_days_to, working_days_rise}
 

@@ -7,7 +7,7 @@ use Rattle.std.proofs.lemmas.Bool.{cases_lt}
 use Rattle.std.proofs.lemmas.Bool.Decides.{nat_tests}
 use Rattle.std.proofs.lemmas.Int.{ints}
 use Rattle.helix_ladders.specs.Calendar.{last_below, days_of_calendar, midnight}
-use Rattle.helix_ladders.specs.Shift.{after_all, before_all, is_working_day, working_days_before, is_working_day_after, is_working_day_ahead, shifted_working_days}
+use Rattle.helix_ladders.specs.Shift.{after_all, before_all, working_days_before, is_working_day_after, is_working_day_ahead, shifted_working_days}
 use Rattle.helix_shift.specs.Inner.Days.{IsWorkingDayAt}
 use Rattle.helix_ladders.proofs.WorkingDays.{working_days-zero, working_days-suc, working_days-le, counts, found_later, none_later, found_earlier, none_earlier}
 

@@ -1,4 +1,4 @@
-use Rattle.std.proofs.Common.{◌≡◌, ℤ, ◌↔◌, ◌<◌, length, true, false, Some, None, IsTrue, FitsSigned, to_z, of_z, sym, subst, refl, arith}
+use Rattle.std.proofs.Common.{◌≡◌, ℤ, ◌<◌, length, true, false, Some, None, IsTrue, FitsSigned, to_z, of_z, sym, subst, refl, arith}
 use Rattle.std.proofs.lemmas.Int.{ints, to_z-of_z}
 use Rattle.std.specs.Int.{w128}
 use Rattle.std.specs.List.{All}

@@ -1,4 +1,4 @@
-use Rattle.std.proofs.Common.{◌≡◌, ℤ, ◌↔◌, ◌<◌, length, true, false, IsTrue, FitsSigned, to_z, of_z, subst, arith}
+use Rattle.std.proofs.Common.{◌≡◌, ℤ, ◌↔◌, true, false, IsTrue, FitsSigned, to_z, of_z, subst, arith}
 use Rattle.std.proofs.lemmas.Int.{to_z-of_z}
 use Rattle.std.specs.Int.{w128}
 use Rattle.std.specs.List.{All}

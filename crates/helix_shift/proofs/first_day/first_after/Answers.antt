@@ -1,6 +1,5 @@
-use Rattle.std.proofs.Common.{◌<ℤ◌, below_more, arith}
+use Rattle.std.proofs.Common.{arith}
 use Rattle.std.proofs.lemmas.Int.{ints}
-use Rattle.helix_shift.specs.Inner.Days.{shifted_day}
 use Rattle.helix_shift.proofs.FirstDays.{none_up_to}
 use Rattle.helix_shift.proofs.first_day.first_after.Goals as goal
 

@@ -1,6 +1,5 @@
-use Rattle.std.proofs.Common.{◌≡◌, ◌-◌, ◌<◌, ◌≤◌, sym, subst, arith}
+use Rattle.std.proofs.Common.{◌-◌, sym, subst, arith}
 use Rattle.std.proofs.lemmas.Int.{ints}
-use Rattle.helix_ladders.specs.Shift.{working_days_before}
 use Rattle.helix_shift.specs.Inner.Days.{IsWorkingDayAt}
 use Rattle.helix_shift.specs.WorkingDayLaws.{earlier_is, no_earlier}
 use Rattle.helix_shift.proofs.working_days.working_days_earlier.Goals as goal

@@ -1,6 +1,5 @@
-use Rattle.std.proofs.Common.{◌≡◌, ◌+◌, ◌-◌, sym, ap, subst, ◌∙◌, arith}
+use Rattle.std.proofs.Common.{◌+◌, ◌-◌, subst, arith}
 use Rattle.std.proofs.lemmas.Int.{ints}
-use Rattle.helix_ladders.specs.Calendar.{midnight}
 use Rattle.helix_shift.specs.Inner.Days.{IsWorkingDayAt}
 use Rattle.helix_shift.specs.WorkingDayLaws.{later_is}
 use Rattle.helix_shift.proofs.working_days.working_days_later.Goals as goal
