@@ -94,7 +94,8 @@ module _ {X : Type 0} (Excludes : X → ℤ → Type 0) (xs : List X) (high chil
       → IsExclusion (λ v. All (λ y. ¬ Excludes y v) xs) high child (Before told)
   excluded_before i x asked own_high next told within read same is to_high own excluded those = (
     by_lt_z child next (λ after. omega (arith, ints, is, after))
-        (λ not_after. absurd ((those child (omega (arith, ints, same)) (omega (arith, ints, own))).1 not_after excluded)),
+        (λ not_after.
+        absurd ((those child (omega (arith, ints, same)) (omega (arith, ints, own))).1 not_after excluded)),
     λ v from_child before to_end all.
         let later : next ≤ℤ v = (those v (omega (arith, ints, same)) (omega (arith, ints, own))).0
         (subst (λ y. ¬ Excludes y v) (sym read) (all i x within)) in

@@ -4,7 +4,9 @@ pub mod Bounds
 pub mod Exclusion
 pub mod OffsetShift
 pub mod ShiftOf
+pub mod Ends
 -- why bounds are exact, and what the crates above cite of them
 pub mod BoundLaws
 pub mod OffsetShiftLaws
+pub mod RelationLaws
 pub mod RuleLaws

@@ -32,7 +32,8 @@ impl<S: Shift> Bound<S> {
         }
     }
 
-    /// The least child that meets the lower bound: the range's least where there is no bound.
+    /// From where on children meet the lower bound, which may lie outside of the range; `None` where
+    /// none does.
     pub fn lower(&self, parent: i128) -> Option<i128>
         requires from_low { S.low self.now.shift ≤ℤ parent }
         requires to_high { parent ≤ℤ S.high self.now.shift }
@@ -60,7 +61,7 @@ impl<S: Shift> Bound<S> {
         }
     }
 
-    /// The least parent whose upper bound a child meets.
+    /// From where on parents set an upper bound that a child meets, as in [`Bound::lower`].
     pub fn inverse(&self, child: i128) -> Option<i128>
         requires from_low { S.low self.now.shift ≤ℤ child }
         requires to_high { child ≤ℤ S.high self.now.shift }

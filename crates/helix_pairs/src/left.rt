@@ -1,6 +1,6 @@
 //! The bounds of a child that is the left end: it compares with the shifted value of the parent.
 
-ghost use Rattle.std.specs.Prelude.{◌≡◌, ◌↔◌, ◌^◌, pos, neg_ℤ, ◌<ℤ◌, ◌≤ℤ◌, IsTrue};
+ghost use Rattle.std.specs.Prelude.{◌↔◌, ◌^◌, pos, ◌<ℤ◌, ◌≤ℤ◌, IsTrue};
 ghost use Rattle.helix_pairs.specs.Bounds.{MeetsLower, MeetsUpper, IsExcluded, AreThoseFrom};
 ghost use Rattle.helix_pairs.specs.declared.comparison.End.TheVariants.{Left};
 

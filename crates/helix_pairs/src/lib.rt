@@ -33,12 +33,14 @@ mod left;
 mod offset_shift;
 pub mod pair;
 mod range;
+mod related;
 mod right;
 
 pub use bound::Bound;
 pub use comparison::{Comparison, End, signed};
 pub use offset_shift::OffsetShift;
 pub use range::ValueRange;
+pub use related::bound_of;
 
 #[cfg(test)]
 mod tests;

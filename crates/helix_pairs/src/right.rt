@@ -1,6 +1,6 @@
 //! The bounds of a child that is the right end: its shifted value compares with the parent.
 
-ghost use Rattle.std.specs.Prelude.{◌≡◌, ◌↔◌, ◌^◌, pos, ◌<ℤ◌, ◌≤ℤ◌, IsTrue};
+ghost use Rattle.std.specs.Prelude.{◌↔◌, ◌^◌, pos, ◌<ℤ◌, ◌≤ℤ◌, IsTrue};
 ghost use Rattle.helix_pairs.specs.Bounds.{MeetsLower, MeetsUpper, IsExcluded, AreThoseFrom};
 ghost use Rattle.helix_pairs.specs.declared.comparison.End.TheVariants.{Right};
 

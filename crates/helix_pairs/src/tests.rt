@@ -1,6 +1,6 @@
 //! Bounds of numbers against plain scans, and bounds of dates.
 
-ghost use Rattle.std.specs.Prelude.{◌≡◌, pos, neg_ℤ};
+ghost use Rattle.std.specs.Prelude.{◌≡◌, pos};
 ghost use Rattle.helix_ladders.specs.Calendar.{last_moment};
 ghost use Rattle.helix_pairs.specs.OffsetShift.{low_of, high_of};
 

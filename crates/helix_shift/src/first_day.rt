@@ -1,6 +1,6 @@
 //! The first day that is shifted far enough: a guess, and a step or two.
 
-ghost use Rattle.std.specs.Prelude.{◌≡◌, ◌<◌, pos, ◌<ℤ◌, ◌≤ℤ◌, IfSome, IfNone};
+ghost use Rattle.std.specs.Prelude.{◌<◌, pos, ◌<ℤ◌, ◌≤ℤ◌, IfSome, IfNone};
 ghost use Rattle.helix_ladders.specs.Calendar.{days_of_calendar};
 ghost use Rattle.helix_ladders.specs.Shift.{after_all};
 ghost use Rattle.helix_shift.specs.DayOffset.{IsDayOffset};
