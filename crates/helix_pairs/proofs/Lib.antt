@@ -1,1 +1,2 @@
 pub mod PairBounds
+pub mod RelatedNumbers

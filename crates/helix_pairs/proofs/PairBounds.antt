@@ -47,15 +47,6 @@ module _ {X : Type 0} (low high : ℤ) (Meets : X → ℤ → Type 0) (xs : List
         λ later k d below. (those v from_low to_high).1 later k d (omega arith) (omega arith),
       )
 
-  -- none where one of the facts has none
-  pub those_from_none : (i : ℕ) (x : X) (own_low own_high : ℤ) → i < length xs → x ≡ get_or xs i x
-      → (own_low ≡ low) × (own_high ≡ high) → AreThoseFrom own_low own_high (Meets x) None
-      → AreThoseFrom low high (λ v. All (λ x. Meets x v) xs) None
-  those_from_none i x own_low own_high within read own none =
-      λ v from_low to_high all.
-      none v (omega (arith, ints, own)) (omega (arith, ints, own))
-      (subst (λ y. Meets y v) (sym read) (all i x within))
-
 module _ {X : Type 0} (P : X → Type 0) (xs : List X) where
   -- a test of each fact, up to the first that fails
   pub fails_at : (i : ℕ) (x : X) (passes : Bool) → i < length xs → x ≡ get_or xs i x → (IsTrue passes ↔ P x)

@@ -61,9 +61,6 @@ those_past AtLeast low high parent child shifted answer rises from_low excluded 
 those_past Below low high parent child shifted answer rises from_low excluded those = absurd excluded
 those_past AtMost low high parent child shifted answer rises from_low excluded those = absurd excluded
 
-equal_by_order : (x y : ℤ) → (x ≡ y) ↔ ((y ≤ℤ x) × (x ≤ℤ y))
-equal_by_order x y = (λ same. (omega (arith, ints), omega (arith, ints)), λ both. omega (arith, ints, both.0, both.1))
-
 -- a relation holds exactly where the child meets both bounds and isn't excluded
 pub related_by_bounds : (comparison : Comparison) (side : End) (shifted : ℤ → ℤ) (parent child : ℤ)
     → AreRelated comparison side shifted parent child

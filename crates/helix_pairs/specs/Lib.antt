@@ -8,5 +8,4 @@ pub mod Ends
 -- why bounds are exact, and what the crates above cite of them
 pub mod BoundLaws
 pub mod OffsetShiftLaws
-pub mod RelationLaws
 pub mod RuleLaws

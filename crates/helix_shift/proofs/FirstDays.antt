@@ -10,7 +10,7 @@ use Rattle.helix_ladders.specs.Shift.{after_all, shifted}
 use Rattle.helix_ladders.specs.declared.offset.Offset.{Offset}
 use Rattle.helix_shift.specs.DayOffset.{IsDayOffset}
 use Rattle.helix_shift.specs.Inner.Days.{shifted_day, IsFirstDay, IsOutOfReach}
-use Rattle.helix_shift.specs.ShiftLaws.{shifted_of_day, shifted_day_from, shifted_day_to, shifted_day_rises}
+use Rattle.helix_shift.specs.ShiftLaws.{shifted_of_day, shifted_day_to, shifted_day_rises}
 
 module _ (offset : Offset) (target : ℤ) where
   -- where a day isn't shifted far enough, no day up to it is
@@ -28,23 +28,8 @@ module _ (offset : Offset) (target : ℤ) where
     first = λ earlier below. none_up_to (day - 1) (omega arith) short earlier (omega arith);
   }
 
-  -- and the calendar's first day is where it is shifted far enough
-  pub first_of_all : target ≤ℤ shifted_day offset 0 → IsFirstDay offset target 0
-  first_of_all reached = record {
-    in_calendar = omega arith;
-    reached = reached;
-    first = λ earlier below. absurd (omega arith);
-  }
-
   module _ (is : IsDayOffset offset) where
-    -- every day is shifted to what lies before the calendar, and none beyond its end
-    pub first_for_negative : target <ℤ pos 0 → IsFirstDay offset target 0
-    first_for_negative negative = first_of_all (omega (
-      arith,
-      ints,
-      shifted_day_from offset 0 is (omega arith),
-    ))
-
+    -- no day is shifted beyond the calendar's end
     pub none_beyond : after_all <ℤ target → IsOutOfReach offset target
     none_beyond beyond day within = omega (arith, ints, shifted_day_to offset day is within)
 

@@ -21,10 +21,6 @@ working_days_of_weeks zero = omega (arith, working_days-zero)
 working_days_of_weeks (suc day) =
     working_days-suc day ∙ week_step day (working_days_before day) (working_days_of_weeks day)
 
--- no more than all days
-pub working_days-le_day : (day : ℕ) → working_days_before day ≤ day
-working_days-le_day day = omega (arith, working_days_of_weeks day)
-
 day_of_week : (count day : ℕ) → day ≡ 7 * (count / 5) + count % 5 → nat_lt (day % 7) 5 ≡ true
 day_of_week count day is = grind (arith, nat_tests)
 

@@ -6,7 +6,7 @@ use Rattle.helix_profile.specs.Satisfaction.{Signed}
 use Rattle.helix_pairs.specs.Related.{Relates, AreRelated}
 use Rattle.helix_pairs.specs.Ends.{EndsRelated}
 use Rattle.helix_pairs.specs.OffsetShift.{applied_by}
-use Rattle.helix_pairs.specs.RelationLaws.{numbers_related}
+use Rattle.helix_pairs.proofs.RelatedNumbers.{numbers_related}
 use Rattle.helix_pairs.proofs.related.bound_of.Goals as goal
 
 pub returns-clause-numbers : goal.returns-clause-numbers

@@ -1,27 +1,18 @@
--- The bound of a relation says what the relation says of cells.
-use Rattle.std.proofs.Common.{◌≡◌, ◌↔◌, ℤ, pos, ◌<ℤ◌, ◌^◌, Bool, sym, subst, arith}
-use Rattle.std.proofs.lemmas.Int.{ints}
+-- The bound of a relation of numbers says what the relation says of their cells.
+use Rattle.std.proofs.Common.{◌≡◌, ◌↔◌, ℤ, Bool, sym, subst}
 use Rattle.helix_ladders.specs.Shift.{shifted}
 use Rattle.helix_ladders.specs.declared.offset.Offset.{Offset}
 use Rattle.helix_ladders.specs.declared.offset.Offset.TheVariants.{Plain, Months, Years, WorkingDays}
-use Rattle.helix_values.specs.declared.cell.Cell.TheVariants.{Number, Moment}
+use Rattle.helix_values.specs.declared.cell.Cell.TheVariants.{Number}
 use Rattle.helix_profile.specs.Holds.{Compares, NumbersRelated}
 use Rattle.helix_profile.specs.Satisfaction.{Signed}
 use Rattle.helix_profile.specs.declared.relation.Compare.{Compare}
 use Rattle.helix_profile.specs.declared.relation.Relation.{Relation}
 use Rattle.helix_pairs.specs.Related.{Relates, AreRelated}
 use Rattle.helix_pairs.specs.Ends.{EndsRelated, IsByUnits}
-use Rattle.helix_pairs.specs.ShiftOf.{IsShiftOf}
 use Rattle.helix_pairs.specs.declared.comparison.Comparison.{Comparison}
 use Rattle.helix_pairs.specs.declared.comparison.End.{End}
 use Rattle.helix_pairs.specs.declared.comparison.End.TheVariants.{Left, Right}
-
--- the values of a range that can be shifted are far within 128 bits
-pub high_within : (low high : ℤ) (offset : Offset) → IsShiftOf low high offset → high <ℤ pos (2 ^ 126)
-high_within low high (Plain units) is = omega (arith, ints, is.2)
-high_within low high (Months count) is = omega (arith, ints, is.1)
-high_within low high (Years count) is = omega (arith, ints, is.1)
-high_within low high (WorkingDays count) is = omega (arith, ints, is.1)
 
 module _ (relation : Relation) (sign : Bool) (comparison : Comparison) (applied : ℤ → ℤ)
     (compares : (x y : ℤ) → Relates comparison x y ↔ Signed sign (Compares relation.compare x y))
@@ -31,11 +22,6 @@ module _ (relation : Relation) (sign : Bool) (comparison : Comparison) (applied 
   with_shifted x y =
       subst (λ z. Relates comparison x z ↔ Signed sign (Compares relation.compare x (shifted relation.offset y)))
       (sym (shifts y)) (compares x (shifted relation.offset y))
-
-  pub moments_related : (side : End) (parent child : ℤ) → AreRelated comparison side applied parent child
-      ↔ Signed sign (EndsRelated relation side Moment parent child)
-  moments_related Left parent child = with_shifted child parent
-  moments_related Right parent child = with_shifted parent child
 
   by_units : (offset : Offset) (how : Compare) (x y : ℤ) → IsByUnits offset
       → Signed sign (Compares how x (shifted offset y)) ↔ Signed sign (NumbersRelated how offset x y)
