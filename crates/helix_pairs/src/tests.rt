@@ -5,9 +5,9 @@ ghost use Rattle.helix_ladders.specs.Calendar.{last_moment};
 ghost use Rattle.helix_pairs.specs.OffsetShift.{low_of, high_of};
 
 use crate::pair::{Exclusion, excludes, inverse, lower, passes_upper};
-use crate::{Bound, Comparison, End, OffsetShift, ValueRange, signed};
+use crate::{Bound, Comparison, End, OffsetShift, ValueRange, bound_of, signed};
 use helix_ladders::Offset;
-use helix_profile::Compare;
+use helix_profile::{Compare, Relation};
 use std::process::Abort;
 
 const SMALL: ValueRange = ValueRange { low: -9, high: 9 };
@@ -106,8 +106,14 @@ fn bounds_are_relations(rt: HostRuntime) {
     }
 }
 
-/// A relation of dates with an offset by months, years or working days.
-fn dated(rt: &impl Abort, comparison: Comparison, child: End, offset: Offset) -> Bound<OffsetShift>
+/// The bound of a relation of dates with an offset by months, years or working days.
+fn dated(
+    rt: &impl Abort,
+    compare: Compare,
+    sign: bool,
+    child: End,
+    offset: Offset,
+) -> Bound<OffsetShift>
     ensures low { low_of result.shift ≡ pos 0 }
     ensures high { high_of result.shift ≡ pos last_moment }
 {
@@ -117,7 +123,13 @@ fn dated(rt: &impl Abort, comparison: Comparison, child: End, offset: Offset) ->
         Offset::Years(count) => assert!(rt; -99 <= count && count <= 99),
         Offset::WorkingDays(count) => assert!(rt; -99 <= count && count <= 99),
     }
-    Bound::new(comparison, child, OffsetShift::of(MOMENTS, offset))
+    let relation = Relation {
+        left: 0,
+        compare,
+        right: 1,
+        offset,
+    };
+    bound_of(&relation, sign, child, MOMENTS)
 }
 
 // 738885 is 2024-01-01, a Monday, and 738944 is 2024-02-29.
@@ -127,44 +139,56 @@ fn dates_have_bounds(rt: HostRuntime) {
     let cases = [
         (
             Offset::Months(1),
-            Comparison::Equal,
+            Compare::Equal,
+            true,
             End::Left,
             738_915,
             Some(738_944),
         ),
         (
             Offset::Months(1),
-            Comparison::Equal,
+            Compare::Equal,
+            true,
             End::Right,
             738_944,
             Some(738_913),
         ),
         (
             Offset::Months(1),
-            Comparison::Below,
+            Compare::AtLeast,
+            false,
             End::Right,
             738_944,
             Some(738_916),
         ),
         (
             Offset::WorkingDays(1),
-            Comparison::Equal,
+            Compare::Equal,
+            true,
             End::Left,
             738_889,
             Some(738_892),
         ),
-        (Offset::Years(1), Comparison::Above, End::Left, last, None),
         (
             Offset::Years(1),
-            Comparison::AtMost,
+            Compare::Above,
+            true,
+            End::Left,
+            last,
+            None,
+        ),
+        (
+            Offset::Years(1),
+            Compare::Above,
+            false,
             End::Left,
             last,
             Some(0),
         ),
     ];
-    for (offset, comparison, child, parent, want) in cases {
-        let least = least_day(&rt, &dated(&rt, comparison, child, offset), parent);
-        assert_eq!(rt; least, want, "{comparison:?} {offset:?} of {parent}");
+    for (offset, compare, sign, child, parent, want) in cases {
+        let least = least_day(&rt, &dated(&rt, compare, sign, child, offset), parent);
+        assert_eq!(rt; least, want, "{compare:?} {sign} {offset:?} of {parent}");
     }
 }
 
@@ -184,12 +208,12 @@ fn least_day(rt: &impl Abort, bound: &Bound<OffsetShift>, parent: u32) -> Option
 #[test]
 fn month_ends_are_excluded_together(rt: HostRuntime) {
     let (first, parent, next) = (738_913, 738_944, 738_916);
-    let bound = dated(&rt, Comparison::Different, End::Right, Offset::Months(1));
+    let bound = dated(&rt, Compare::Equal, false, End::Right, Offset::Months(1));
     assert_eq!(rt;
         excluded_days(&rt, bound, parent, first),
         Exclusion::Before(next * 86_400_000)
     );
-    let bound = dated(&rt, Comparison::Different, End::Right, Offset::Months(1));
+    let bound = dated(&rt, Compare::Equal, false, End::Right, Offset::Months(1));
     assert_eq!(rt; excluded_days(&rt, bound, parent, 738_912), Exclusion::No);
 }
 

@@ -18,7 +18,7 @@
 //!
 //! Nothing here takes memory. `apply` goes over no days: a month is found by its number and a working
 //! day by the five of each week. `least_from` looks at the day that the target is shifted back to and
-//! its neighbours, five days at most.
+//! its neighbours, four days at most.
 #![tactic(auto)]
 
 mod day_shift;
