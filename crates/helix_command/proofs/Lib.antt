@@ -1,0 +1,6 @@
+pub mod Texts
+pub mod Dividing
+pub mod Numerals
+pub mod Faulting
+pub mod Exclusion
+pub mod Blaming
