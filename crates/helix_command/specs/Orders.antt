@@ -6,8 +6,8 @@ use Rattle.helix_base.specs.declared.alphabet.Alphabet.{Alphabet}
 use Rattle.helix_base.specs.declared.alphabet.Alphabet.TheVariants as alphabet
 use Rattle.helix_command.specs.declared.fault.WordsFault.{WordsFault}
 use Rattle.helix_command.specs.declared.fault.WordsFault.TheVariants as fault
-use Rattle.helix_command.specs.declared.format.Format.{Format}
-use Rattle.helix_command.specs.declared.format.Format.TheVariants as format
+use Rattle.helix_output.specs.declared.format.Format.{Format}
+use Rattle.helix_output.specs.declared.format.Format.TheVariants as format
 use Rattle.helix_command.specs.declared.group.Group.{Group}
 use Rattle.helix_command.specs.declared.options.OptionName.TheVariants as option
 use Rattle.helix_command.specs.declared.order.Job.{Job}

@@ -5,8 +5,8 @@ use Rattle.std.specs.Str.Parse.{digits_value}
 use Rattle.helix_base.specs.Digits.{is_digit}
 use Rattle.helix_base.specs.declared.alphabet.Alphabet.{Alphabet}
 use Rattle.helix_base.specs.declared.alphabet.Alphabet.TheVariants as alphabet
-use Rattle.helix_command.specs.declared.format.Format.{Format}
-use Rattle.helix_command.specs.declared.format.Format.TheVariants as format
+use Rattle.helix_output.specs.declared.format.Format.{Format}
+use Rattle.helix_output.specs.declared.format.Format.TheVariants as format
 use Rattle.helix_command.specs.declared.options.OptionName.{OptionName}
 use Rattle.helix_command.specs.declared.options.OptionName.TheVariants as option
 use Rattle.helix_command.specs.Options.{takes_value}

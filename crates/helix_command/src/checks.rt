@@ -48,7 +48,14 @@ pub fn check_fault(groups: &[Group]) -> Option<OptionName>
 }
 
 /// A workload has only a row limit beside it; another order has a profile file and an output path.
-#[tactic(auto, unfolding(crate::specs::Checks::names_fault, crate::specs::Checks::workload_fault, crate::specs::Checks::generate_fault))]
+#[tactic(
+    auto,
+    unfolding(
+        crate::specs::Checks::names_fault,
+        crate::specs::Checks::workload_fault,
+        crate::specs::Checks::generate_fault
+    )
+)]
 fn names_fault(groups: &[Group]) -> Option<OptionName>
     ensures { result ≡ names_fault groups.now }
 {

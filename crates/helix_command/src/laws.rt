@@ -19,12 +19,14 @@ pub fn one_fault()
 
 /// Words have an order or a fault.
 pub fn order_or_fault()
-    ensures { (words : List (List ℕ)) → ((order : Order) × IsOrder words order) ⊎ ((fault : WordsFault) × IsFault words fault) }
+    ensures { (words : List (List ℕ)) → ((order : Order) × IsOrder words order)
+        ⊎ ((fault : WordsFault) × IsFault words fault) }
 {}
 
 /// Words with an order have no fault.
 pub fn order_without_fault()
-    ensures { (words : List (List ℕ)) (order : Order) (fault : WordsFault) → IsOrder words order → ¬ IsFault words fault }
+    ensures { (words : List (List ℕ)) (order : Order) (fault : WordsFault) → IsOrder words order
+        → ¬ IsFault words fault }
 {}
 
 /// Each option is the one that its word names.

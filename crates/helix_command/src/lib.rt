@@ -23,7 +23,6 @@
 mod checks;
 mod fault;
 mod faults;
-mod format;
 mod given;
 mod group;
 pub mod laws;
@@ -34,7 +33,6 @@ mod values;
 mod word;
 
 pub use fault::WordsFault;
-pub use format::Format;
 pub use options::OptionName;
 pub use order::{Job, Order};
 pub use reading::read_words;

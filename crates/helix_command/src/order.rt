@@ -1,7 +1,7 @@
 //! What the words ask for.
 
-use crate::format::Format;
 use helix_base::{Alphabet, Text};
+use helix_output::Format;
 
 /// What the words of a command line ask for.
 #[derive(Debug, Drop)]

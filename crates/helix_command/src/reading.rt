@@ -7,13 +7,13 @@ ghost use Rattle.helix_command.specs.Given.{value_given};
 use crate::checks::check_fault;
 use crate::fault::WordsFault;
 use crate::faults::first_fault;
-use crate::format::Format;
 use crate::given::{is_given, number_given, value_given};
 use crate::group::{Group, groups_of};
 use crate::options::OptionName;
 use crate::order::{Job, Order};
 use crate::values::{alphabet_named, format_named};
 use helix_base::{Alphabet, List, Memory, Text};
+use helix_output::Format;
 use std::alloc::Global;
 
 /// Row limit where none is given.
@@ -22,7 +22,8 @@ const DEFAULT_LIMIT: u64 = 10_000_000;
 /// The order that the words after a program's name give.
 pub fn read_words(alloc: Global, words: &[String]) -> Result<Order, WordsFault>
     ensures order { IfOk result (λ order. IsOrder (texts_of (map string_bytes words.now)) order) }
-    ensures fault { IfErr result (λ fault. fault ≢ WordsFault.Memory → IsFault (texts_of (map string_bytes words.now)) fault) }
+    ensures fault { IfErr result (λ fault. fault ≢ WordsFault.Memory
+        → IsFault (texts_of (map string_bytes words.now)) fault) }
 {
     let texts = texts_of(alloc, words)?;
     let groups = groups_of(alloc, texts.as_slice())?;

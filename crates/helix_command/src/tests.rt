@@ -1,5 +1,6 @@
 //! Tests of what no clause says: that orders come where memory is ample, and the words of the options.
 
+mod clashes;
 mod faults;
 mod orders;
 

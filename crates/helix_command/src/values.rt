@@ -5,10 +5,10 @@ ghost use Rattle.std.specs.List.{list_all};
 ghost use Rattle.helix_base.specs.Digits.{is_digit};
 ghost use Rattle.helix_command.specs.Values.{alphabet_named, format_named, greatest_number, is_number, is_numeral, is_value, number_within};
 
-use crate::format::Format;
 use crate::options::OptionName;
 use crate::word::is_word;
 use helix_base::{Alphabet, is_digit};
+use helix_output::Format;
 
 /// The greatest number that an option takes.
 const GREATEST_NUMBER: u64 = 1_000_000_000_000;

@@ -39,7 +39,8 @@ not_after_rest (x ∷ begin) a b (inr rest) = not_after_rest begin a b rest.1
 pub after_itself : (n : ℕ) (a : List ℕ) → AreDescending 0 n a → IsNotAfter (n ∷ a) a → ⊥
 after_itself n [] below not_after = not_after
 after_itself n (x ∷ a) below (inl less) = let lower : x < n = below.1 in absurd (omega arith)
-after_itself n (x ∷ a) below (inr rest) = let lower : x < n = below.1 in let same : n ≡ x = rest.0 in absurd (omega arith)
+after_itself n (x ∷ a) below (inr rest) =
+    let lower : x < n = below.1 in let same : n ≡ x = rest.0 in absurd (omega arith)
 
 -- two lists neither of which is after the other
 pub same_lists : (a b : List ℕ) → IsNotAfter a b → IsNotAfter b a → a ≡ b

@@ -40,7 +40,8 @@ impl Emptiness for Conflicts {
 
 /// Whether these three numbers are there.
 fn has_all(keep: &[u32], numbers: (u32, u32, u32)) -> bool
-    ensures { IsTrue result ↔ (Contains keep.now numbers.0 × Contains keep.now numbers.1 × Contains keep.now numbers.2) }
+    ensures { IsTrue result
+        ↔ (Contains keep.now numbers.0 × Contains keep.now numbers.1 × Contains keep.now numbers.2) }
 {
     keep.contains(&numbers.0) && keep.contains(&numbers.1) && keep.contains(&numbers.2)
 }

@@ -1,8 +1,9 @@
 //! Orders of words.
 
 use super::read;
-use crate::{Format, Job, Order};
+use crate::{Job, Order};
 use helix_base::{Alphabet, Text};
+use helix_output::Format;
 use std::alloc::Global;
 use std::process::Abort;
 use std::test::Fail;
