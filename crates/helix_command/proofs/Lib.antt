@@ -4,3 +4,4 @@ pub mod Numerals
 pub mod Faulting
 pub mod Exclusion
 pub mod Blaming
+pub mod DecimalNumbers

@@ -54,11 +54,11 @@ unfoldable pub is_overwritten : List Group → Bool
 is_overwritten groups = both_numbered (value_given option.OutputPath groups) (value_given option.ProfileFile groups)
 
 -- a workload has only a row limit beside it
-unfoldable pub workload_fault : List Group → Option OptionName
+abbrev pub workload_fault : List Group → Option OptionName
 workload_fault groups = option_or (first_given not_of_workload groups) (missing option.MaxRows groups)
 
 -- another order has a profile file and an output path
-unfoldable pub generate_fault : List Group → Option OptionName
+abbrev pub generate_fault : List Group → Option OptionName
 generate_fault groups = option_or (missing option.ProfileFile groups) (missing option.OutputPath groups)
 
 unfoldable pub names_fault : List Group → Option OptionName

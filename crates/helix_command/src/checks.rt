@@ -1,7 +1,7 @@
 //! The checks after the last word: options that are missing, and options that do not go together.
 
 ghost use Rattle.std.specs.Prelude.{◌≡◌, option_copied};
-ghost use Rattle.helix_command.specs.Checks.{all_fault, are_equal, are_given, blame, both_equal, both_numbered, boundary_fault, check_fault, explain_fault, first_blamed, generate_fault, is_numbered, is_overwritten, missing, names_fault, output_fault, rule_fault, token_fault, workload_fault};
+ghost use Rattle.helix_command.specs.Checks.{all_fault, are_equal, are_given, blame, both_equal, both_numbered, boundary_fault, check_fault, explain_fault, first_blamed, is_numbered, is_overwritten, missing, names_fault, output_fault, rule_fault, token_fault};
 
 use crate::given::{first_given, is_given, value_given};
 use crate::group::Group;
@@ -48,14 +48,7 @@ pub fn check_fault(groups: &[Group]) -> Option<OptionName>
 }
 
 /// A workload has only a row limit beside it; another order has a profile file and an output path.
-#[tactic(
-    auto,
-    unfolding(
-        crate::specs::Checks::names_fault,
-        crate::specs::Checks::workload_fault,
-        crate::specs::Checks::generate_fault
-    )
-)]
+#[tactic(auto, unfolding(crate::specs::Checks::names_fault))]
 fn names_fault(groups: &[Group]) -> Option<OptionName>
     ensures { result ≡ names_fault groups.now }
 {

@@ -14,7 +14,7 @@
 //! - The fault is the first from the left (`specs/Faults.antt`), in the groups that the words are divided into
 //!   (`specs/Groups.antt`): a word with `=`, a flag, or an option and its value. Without one it is that of the first
 //!   check that fails (`specs/Checks.antt`).
-//! - Options and their values are those of `specs/Options.antt` and `specs/Values.antt`. A number is a decimal numeral
+//! - Options and their values are those of `specs/Options.antt` and `specs/Values.antt`. A number is in decimal,
 //!   without sign and leading zero; a name is any text but the empty one, and names are compared as texts.
 //!
 //! The words are copied once, and the names that are given once more. No clause says what a call costs.

@@ -16,7 +16,12 @@ fn have(rt: &impl Abort, alloc: Global, lines: &[&str], fault: WordsFault) -> Re
 }
 
 /// The words of each line blame this option.
-pub fn blame(rt: &impl Abort, alloc: Global, option: OptionName, lines: &[&str]) -> Result<(), Fail> {
+pub fn blame(
+    rt: &impl Abort,
+    alloc: Global,
+    option: OptionName,
+    lines: &[&str],
+) -> Result<(), Fail> {
     have(rt, alloc, lines, WordsFault::Option(option))
 }
 
