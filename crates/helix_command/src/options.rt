@@ -81,7 +81,7 @@ impl OptionName {
     }
 
     /// The row of the option in the table of options, from 0.
-    pub fn row(self) -> u8
+    pub(crate) fn row(self) -> u8
         ensures { result ≡ row_of self }
     {
         match self {
@@ -103,7 +103,7 @@ impl OptionName {
     }
 
     /// Whether the option takes a value. A flag takes none.
-    pub fn takes_value(self) -> bool
+    pub(crate) fn takes_value(self) -> bool
         ensures { result ≡ takes_value self }
     {
         match self {
