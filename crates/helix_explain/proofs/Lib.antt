@@ -1,0 +1,4 @@
+pub mod Ordered
+pub mod Reversed
+pub mod Stages
+pub mod Cores
