@@ -57,12 +57,7 @@ pub fn states(alloc: Global, containing: bool, pattern: &str) -> Result<String, 
 }
 
 /// Whether the words that the first pattern matches and the second doesn't have this one.
-pub fn without(
-    alloc: Global,
-    pattern: &str,
-    other: &str,
-    word: &str,
-) -> Result<String, Memory> {
+pub fn without(alloc: Global, pattern: &str, other: &str, word: &str) -> Result<String, Memory> {
     let (Some(kept), Some(left_out)) = (regex_of(alloc, pattern)?, regex_of(alloc, other)?) else {
         return Ok(format!(in alloc; "no pattern")?);
     };
@@ -99,7 +94,11 @@ fn letters(alloc: Global, number: u32, length: u32) -> Result<Text, Memory> {
     let mut word = Text::new(alloc);
     let mut rest = number;
     for _ in 0..length {
-        word.push(if rest % 2 == 0 { 'a' as u32 } else { 'b' as u32 })?;
+        word.push(if rest % 2 == 0 {
+            'a' as u32
+        } else {
+            'b' as u32
+        })?;
         rest /= 2;
     }
     Ok(word)

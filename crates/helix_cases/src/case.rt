@@ -33,9 +33,7 @@ fn texts_answer(alloc: Global, reader: &str, given: &str) -> Result<String, Memo
         "whole-states" => automaton::states(alloc, false, first.as_str()),
         "part-states" => automaton::states(alloc, true, first.as_str()),
         "agree" => automaton::agreeing(alloc, first.as_str()),
-        "without" => {
-            automaton::without(alloc, first.as_str(), second.as_str(), third.as_str())
-        }
+        "without" => { automaton::without(alloc, first.as_str(), second.as_str(), third.as_str()) }
         _ => Ok(format!(in alloc; "no case")?),
     }
 }

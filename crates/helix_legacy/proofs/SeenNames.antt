@@ -52,11 +52,14 @@ takes old new key updates q = (
         → (is_seen old q ≡ true) ⊎ (Some (json.Str key.now) ≡ Some (json.Str q.now))
     by_case true e h = inr (ap (λ n. Some (json.Str n)) (same_name key q e))
     by_case false e h = inl h
+
     kept : (b had : Bool) → had ≡ true → cond b true had ≡ true
     kept true had e = refl
     kept false had e = e
+
     text_is : (a b : List ℕ) → Some (json.Str a) ≡ Some (json.Str b) → a ≡ b
     text_is a b e = cc e
+
     it : Some (json.Str key.now) ≡ Some (json.Str q.now) → cond (at key q) true (is_seen old q) ≡ true
     it same = ap (λ b. cond b true (is_seen old q)) (name_same key q (text_is key.now q.now same))
 

@@ -1,6 +1,4 @@
-use crate::{
-    LegacyFault, LegacyRule, is_older, rule_count, rule_number, today,
-};
+use crate::{LegacyFault, LegacyRule, is_older, rule_count, rule_number, today};
 use helix_base::Text;
 use helix_json::{Json, Member, read};
 use std::alloc::Global;

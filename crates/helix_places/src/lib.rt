@@ -24,7 +24,10 @@ mod name;
 mod place;
 mod pointer;
 
-pub use keys::{are_three_keys, are_two_keys, as_list, as_object, as_text, has_key, has_list, is_key, is_word, push_bytes, value_of, word_text};
+pub use keys::{
+    are_three_keys, are_two_keys, as_list, as_object, as_text, has_key, has_list, is_key, is_word,
+    push_bytes, value_of, word_text,
+};
 pub use name::is_name_text;
 pub use place::{Place, Step, place_of};
 pub use pointer::pointer_of;
