@@ -1,7 +1,7 @@
 //! A case: a word that names a reader, and what it is given.
 
 use crate::bytes::bytes_of;
-use crate::{automaton, json, pattern};
+use crate::{automaton, json, pattern, refusal};
 use helix_base::{Memory, Text};
 use helix_json::{is_number, number_units};
 use std::alloc::Global;
@@ -14,6 +14,8 @@ pub fn answer(alloc: Global, line: &str) -> Result<String, Memory> {
     let (reader, given) = line.split_once(' ').unwrap_or((line, ""));
     match reader {
         "json" => json::answer(alloc, bytes_of(alloc, given)?.as_slice()),
+        "profile" => refusal::answer(alloc, bytes_of(alloc, given)?.as_slice()),
+        "constraint" => refusal::of_constraint(alloc, bytes_of(alloc, given)?.as_slice()),
         "units" => units(alloc, given),
         _ => texts_answer(alloc, reader, given),
     }

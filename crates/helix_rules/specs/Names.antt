@@ -1,0 +1,38 @@
+-- The names of the rules.
+use Rattle.std.specs.Prelude.{ℕ, List, codes}
+use Rattle.helix_rules.specs.declared.rule.Rule.{Rule}
+use Rattle.helix_rules.specs.declared.rule.Rule.TheVariants as rule
+
+unfoldable pub name_of : Rule → List ℕ
+name_of rule.J1 = codes "J1"
+name_of rule.J2 = codes "J2"
+name_of rule.J3 = codes "J3"
+name_of rule.J4 = codes "J4"
+name_of rule.J5 = codes "J5"
+name_of rule.S1 = codes "S1"
+name_of rule.L1 = codes "L1"
+name_of rule.L2 = codes "L2"
+name_of rule.L3 = codes "L3"
+name_of rule.L4 = codes "L4"
+name_of rule.S2 = codes "S2"
+name_of rule.S3 = codes "S3"
+name_of rule.S4 = codes "S4"
+name_of rule.S5 = codes "S5"
+name_of rule.S6 = codes "S6"
+name_of rule.S7 = codes "S7"
+name_of rule.S8 = codes "S8"
+name_of rule.S9 = codes "S9"
+name_of rule.S10 = codes "S10"
+name_of rule.S11 = codes "S11"
+name_of rule.S12 = codes "S12"
+name_of rule.S13 = codes "S13"
+name_of rule.S14 = codes "S14"
+name_of rule.S15 = codes "S15"
+name_of rule.S16 = codes "S16"
+name_of rule.S17 = codes "S17"
+name_of rule.S18 = codes "S18"
+name_of rule.S19 = codes "S19"
+name_of rule.S20 = codes "S20"
+name_of rule.S21 = codes "S21"
+name_of rule.S22 = codes "S22"
+name_of rule.S23 = codes "S23"
