@@ -1,5 +1,5 @@
 -- The rules, tried one after the other.
-use Rattle.std.proofs.Common.{◌≡◌, ℕ, zero, suc, ◌+◌, ◌<◌, ◌≤◌, List, [], ◌∷◌, length, Option, Some, None, Result, IfOk, slice_get, get_or, refl, sym, subst, arith}
+use Rattle.std.proofs.Common.{◌≡◌, ℕ, zero, suc, ◌+◌, ◌<◌, ◌≤◌, List, [], ◌∷◌, length, Option, Some, None, Result, IfOk, get_or, refl, sym, subst, arith}
 use Rattle.std.proofs.lemmas.Option.{slice_get_read}
 use Rattle.helix_base.specs.declared.memory.Memory.{Memory}
 use Rattle.helix_json.specs.declared.value.Json.{Json}
@@ -11,7 +11,7 @@ use Rattle.helix_places.specs.Places.{Finds}
 use Rattle.helix_profile.specs.declared.field.Field.{Field}
 use Rattle.helix_rules.specs.declared.rule.Rule.{Rule}
 use Rattle.helix_rules.specs.declared.breach.Breach.{Breach}
-use Rattle.helix_rules.specs.Breaches.{FindsBreach, IsFirstBreach}
+use Rattle.helix_rules.specs.Breaches.{FindsBreach}
 use Rattle.helix_rules.specs.Broken.{Broken}
 
 get_or_read : (rules : List Rule) (i : ℕ) (d : Rule) → i < length rules

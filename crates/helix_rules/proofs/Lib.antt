@@ -1,2 +1,5 @@
 pub mod Atomic
 pub mod Breaching
+pub mod Collecting
+pub mod Existing
+pub mod Closing

@@ -1,11 +1,10 @@
 -- Only constraints within which there is none break the rules on fields and on operands.
-use Rattle.std.proofs.Common.{◌≡◌, ◌⊎◌, inr, ℕ, Bool, true, false, List, [], ◌∷◌, Option, Some, None, refl}
+use Rattle.std.proofs.Common.{◌≡◌, ◌⊎◌, inr, ℕ, true, List, [], ◌∷◌, Option, Some, None, refl}
 use Rattle.std.specs.Option.{IsSomeAnd}
 use Rattle.helix_json.specs.declared.value.Json.{Json}
 use Rattle.helix_json.specs.declared.value.Member.{Member}
 use Rattle.helix_keywords.specs.declared.form.Form.{Form}
 use Rattle.helix_keywords.specs.declared.form.Form.TheVariants as form
-use Rattle.helix_keywords.specs.Forms.{form_of}
 use Rattle.helix_constraints.specs.AloneLaws.{alone_by_form}
 use Rattle.helix_constraints.specs.Rules.{form_in}
 use Rattle.helix_constraints.specs.Visited.{IsAlone, role_by_form}
@@ -16,7 +15,6 @@ use Rattle.helix_places.specs.Members.{members_of, value_of}
 use Rattle.helix_profile.specs.declared.field.Field.{Field}
 use Rattle.helix_references.specs.declared.rule.ReferenceRule.{ReferenceRule}
 use Rattle.helix_references.specs.declared.rule.ReferenceRule.TheVariants as rule
-use Rattle.helix_references.specs.Naming.{kind_by}
 use Rattle.helix_references.specs.Rules.{Breaks, IsFaulty, IsFaultyIn, is_misused, is_relation_key, names_field}
 use Rattle.helix_values.specs.declared.kind.Kind.{Kind}
 use Rattle.helix_rules.specs.declared.atom.Atom.{Atom}

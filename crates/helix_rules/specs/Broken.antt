@@ -13,9 +13,10 @@ use Rattle.helix_references.specs.Rules.{Breaks}
 use Rattle.helix_rules.specs.declared.rule.Rule.{Rule}
 use Rattle.helix_rules.specs.declared.rule.Rule.TheVariants as rule
 use Rattle.helix_rules.specs.Atoms.{BreaksAtom}
+use Rattle.helix_rules.specs.Lines.{BreaksForest}
 
--- The rule is broken at the place in the value, where these are the declared fields. Rules other than S1 to S20 are not
--- about the parts of a profile one by one, and are broken nowhere here.
+-- The rule is broken at the place in the value, where these are the declared fields. Rules other than S1 to S21 are not
+-- about the value alone, and are broken nowhere here.
 abbrev pub Broken : List Field → Rule → Json → List Step → Type 0
 Broken fields rule.S1 v place = IsNoObject v place
 Broken fields rule.S2 v place = BreaksProfileKey v place
@@ -37,4 +38,5 @@ Broken fields rule.S17 v place = InConstraints BreaksSize v place
 Broken fields rule.S18 v place = InConstraints (Breaks reference.OneClass fields) v place
 Broken fields rule.S19 v place = InConstraints (Breaks reference.TwoFields fields) v place
 Broken fields rule.S20 v place = InConstraints (Breaks reference.Offset fields) v place
+Broken fields rule.S21 v place = BreaksForest fields v place
 Broken fields other v place = ⊥

@@ -21,8 +21,8 @@ pub struct Breach {
     pub place: Place,
 }
 
-/// The rules S2 to S20 in the order in which they are tried: those on the parts of a profile one by one.
-pub const PROFILE_RULES: [Rule; 19] = [
+/// The rules S2 to S21 in the order in which they are tried.
+pub const PROFILE_RULES: [Rule; 20] = [
     Rule::S2,
     Rule::S3,
     Rule::S4,
@@ -42,10 +42,11 @@ pub const PROFILE_RULES: [Rule; 19] = [
     Rule::S18,
     Rule::S19,
     Rule::S20,
+    Rule::S21,
 ];
 
 /// The first of the rules that a value breaks, in their order, with the first place in the text where it does. Of S1 to
-/// S20 only, since the other rules are broken nowhere here.
+/// S21 only, since the other rules are broken nowhere here.
 pub fn first_breach(
     alloc: Global,
     alphabet: Alphabet,

@@ -9,6 +9,7 @@ ghost use Rattle.helix_rules.specs.Atoms.{BreaksAtom};
 ghost use Rattle.helix_rules.specs.Broken.{Broken};
 
 use crate::checks::{OperandCheck, ReferenceCheck};
+use crate::cycle::cycle_fault;
 use crate::rule::Rule;
 use helix_base::Memory;
 use helix_constraints::{FormRule, SizeRule, first_in_constraints};
@@ -23,7 +24,7 @@ use helix_profile::Field;
 use helix_references::ReferenceRule;
 use std::alloc::Global;
 
-/// The first place in the text where a profile with these declared fields breaks one of the rules S1 to S20. None for any
+/// The first place in the text where a profile with these declared fields breaks one of the rules S1 to S21. None for any
 /// other rule.
 pub fn fault_of(
     alloc: Global,
@@ -54,6 +55,7 @@ pub fn fault_of(
         Rule::S18 => reference_fault_in(alloc, ReferenceRule::OneClass, fields, v),
         Rule::S19 => reference_fault_in(alloc, ReferenceRule::TwoFields, fields, v),
         Rule::S20 => reference_fault_in(alloc, ReferenceRule::Offset, fields, v),
+        Rule::S21 => cycle_fault(alloc, fields, v),
         _ => Ok(None),
     }
 }

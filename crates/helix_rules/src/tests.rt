@@ -5,13 +5,13 @@ use helix_places::pointer_of;
 use std::alloc::Global;
 use std::test::Fail;
 
-/// Fields of each class: a boolean `b`, an integer `i`, a decimal `n`, a string `s`, a date `d` and a date-time `t`.
+/// Fields of each class: a boolean `b`, integers `i` and `j`, a decimal `n`, a string `s`, a date `d` and a date-time `t`.
 const FIELDS: &str = concat!(
     r#"{"fields":[{"name":"b","type":"boolean"},{"name":"i","type":"integer"},{"name":"n","type":"decimal"},"#,
-    r#"{"name":"s","type":"string"},{"name":"d","type":"date"},{"name":"t","type":"datetime"}],"constraints":["#,
+    r#"{"name":"j","type":"integer"},{"name":"s","type":"string"},{"name":"d","type":"date"},{"name":"t","type":"datetime"}],"constraints":["#,
 );
 
-/// The first broken rule of S1 and then S2 to S20, and the pointer of its place: `S9 #/constraints/0/field`.
+/// The first broken rule of S1 and then S2 to S21, and the pointer of its place: `S9 #/constraints/0/field`.
 fn breach(alloc: Global, v: &Json) -> Result<Text, Memory> {
     let whole = first_breach(alloc, Alphabet::Basic, &[Rule::S1], v)?;
     let found = match whole {
@@ -68,6 +68,32 @@ fn the_first_broken_rule_of_a_profile_is_found(rt: HostRuntime) -> Result<(), Fa
     ];
     for (text, want) in cases {
         assert!(rt; is_refused(rt.alloc(), text.as_bytes(), want)?, "{text}");
+    }
+    Ok(())
+}
+
+#[test]
+fn the_first_relation_that_closes_a_cycle_is_found(rt: HostRuntime) -> Result<(), Fail> {
+    let cases = [
+        (
+            r#"{"field":"i","equalToField":"n"},{"not":{"field":"j","lessThanField":"n"}},{"field":"j","equalToField":"i"}"#,
+            "S21 #/constraints/2/equalToField",
+        ),
+        (
+            r#"{"anyOf":[{"field":"i","equalToField":"n"},{"greaterThanField":"i","field":"j"}]},{"if":{"field":"n","lessThanField":"j"},"then":{"field":"i","equalToField":"j"}}"#,
+            "S21 #/constraints/1/if/lessThanField",
+        ),
+        (
+            r#"{"field":"i","equalToField":"n"},{"field":"n","lessThanField":"i"},{"field":"i","equalToField":"j"},{"field":"d","equalToField":"t"}"#,
+            "",
+        ),
+        (
+            r#"{"field":"i","equalToField":"n"},{"field":"j","lessThanField":"n"},{"field":"j","equalToField":"i"},{"field":"d","afterField":"t","offset":1}"#,
+            "S20 #/constraints/3/offset",
+        ),
+    ];
+    for (constraints, want) in cases {
+        assert!(rt; are_refused(rt.alloc(), constraints, want)?, "{constraints}");
     }
     Ok(())
 }

@@ -53,3 +53,7 @@ returns-in-S19 c = by_rule c.args.fields.now c.args.v.now rule.S19 c.args.rule c
 pub returns-in-S20 : goal.returns-in-S20
 returns-in-S20 c = by_rule c.args.fields.now c.args.v.now rule.S20 c.args.rule c.reference_fault_in-in-S20.result c.in-S20.is
     c.reference_fault_in-in-S20.ensures
+
+pub returns-in-S21 : goal.returns-in-S21
+returns-in-S21 c = by_rule c.args.fields.now c.args.v.now rule.S21 c.args.rule c.cycle_fault.result c.in-S21.is
+    c.cycle_fault.ensures.place
