@@ -34,11 +34,7 @@ pub fn atomic(
 }
 
 /// The relation that the members of an object give.
-pub fn related(
-    fields: &[Field],
-    members: &[Member],
-    keyword: FieldKeyword,
-) -> Option<Constraint>
+pub fn related(fields: &[Field], members: &[Member], keyword: FieldKeyword) -> Option<Constraint>
     requires { length fields.now < 2 ^ 32 }
     ensures { Reads (GivesRelated fields.now members.now keyword) result }
 {

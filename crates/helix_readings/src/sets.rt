@@ -20,7 +20,11 @@ pub struct SetMembers {
 pub type Sets = List<SetMembers>;
 
 /// A copy of the members for a place.
-pub fn members_at(alloc: Global, sets: &[SetMembers], place: &Place) -> Result<Option<Cells>, Memory>
+pub fn members_at(
+    alloc: Global,
+    sets: &[SetMembers],
+    place: &Place,
+) -> Result<Option<Cells>, Memory>
     ensures { IfOk result (Reads (HasMembers sets.now place.now)) }
 {
     for set in sets {

@@ -151,14 +151,26 @@ fn constraints_are_read(rt: HostRuntime) -> Result<(), Fail> {
         (r#"{}"#, "()"),
         (r#"{"constraints":[]}"#, "()"),
         (r#"{"constraints":[{"field":"b","isNull":true}]}"#, "(1n)"),
-        (r#"{"constraints":[{"longerThan":7,"field":"s"},{"field":"a","inSet":[1,2,3]}]}"#, "(2l70s3)"),
-        (r#"{"constraints":[{"field":"a","greaterThanField":"b","offset":5}]}"#, "(0r1)"),
-        (r#"{"constraints":[{"not":{"not":{"field":"a","isNull":false}}}]}"#, "(!!0N)"),
+        (
+            r#"{"constraints":[{"longerThan":7,"field":"s"},{"field":"a","inSet":[1,2,3]}]}"#,
+            "(2l70s3)",
+        ),
+        (
+            r#"{"constraints":[{"field":"a","greaterThanField":"b","offset":5}]}"#,
+            "(0r1)",
+        ),
+        (
+            r#"{"constraints":[{"not":{"not":{"field":"a","isNull":false}}}]}"#,
+            "(!!0N)",
+        ),
         (
             r#"{"constraints":[{"anyOf":[{"field":"s","equalTo":"y"},{"field":"s","inSet":"file.csv"}]}]}"#,
             "(|(2t2s2))",
         ),
-        (r#"{"constraints":[{"anyOf":[{"field":"s","inSet":"file.csv"}]}]}"#, "-"),
+        (
+            r#"{"constraints":[{"anyOf":[{"field":"s","inSet":"file.csv"}]}]}"#,
+            "-",
+        ),
         (
             r#"{"constraints":[{"then":{"field":"a","isNull":true},"if":{"field":"b","isNull":true}}]}"#,
             "(?1n0n)",
