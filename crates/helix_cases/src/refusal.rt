@@ -12,7 +12,7 @@ const FIELDS: &[u8] = b"{\"fields\":[{\"name\":\"b\",\"type\":\"boolean\"},\
     {\"name\":\"d\",\"type\":\"date\"},{\"name\":\"t\",\"type\":\"datetime\"},{\"name\":\"i\",\"type\":\"isin\"}],\
     \"constraints\":[";
 
-/// The rule and the pointer, where the text of a profile breaks one of S1 to S20.
+/// The rule and the pointer, where the text of a profile breaks one of S1 to S21.
 pub fn answer(alloc: Global, bytes: &[u8]) -> Result<String, Memory> {
     let Ok(value) = read(alloc, bytes) else {
         return Ok(format!(in alloc; "no JSON")?);

@@ -43,7 +43,13 @@ pub fn cycle_fault(alloc: Global, fields: &[Field], v: &Json) -> Result<Option<P
     let lines = lines_of(alloc, fields, v)?;
     match check_forest(alloc, MAX_FIELDS, lines.as_slice()) {
         Ok(()) => Ok(None),
-        Err(ForestFault::Cycle { index }) => closing_place(alloc, fields, lines.as_slice(), index, v),
+        Err(ForestFault::Cycle { index }) => closing_place(
+            alloc,
+            fields,
+            lines.as_slice(),
+            index,
+            v,
+        ),
         Err(ForestFault::Memory) => Err(Memory),
     }
 }
@@ -63,7 +69,14 @@ fn closing_place(
 {
     match lines.get(index as usize) {
         Some(line) => {
-            first_in_constraints(alloc, &LineCheck { line: *line, fields }, v)
+            first_in_constraints(
+                alloc,
+                &LineCheck {
+                    line: *line,
+                    fields,
+                },
+                v,
+            )
         }
         None => Ok(None),
     }

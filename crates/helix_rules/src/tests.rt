@@ -93,7 +93,10 @@ fn the_first_relation_that_closes_a_cycle_is_found(rt: HostRuntime) -> Result<()
         ),
     ];
     for (constraints, want) in cases {
-        assert!(rt; are_refused(rt.alloc(), constraints, want)?, "{constraints}");
+        assert!(rt;
+            are_refused(rt.alloc(), constraints, want)?,
+            "{constraints}"
+        );
     }
     Ok(())
 }
@@ -160,7 +163,10 @@ fn the_first_broken_rule_of_constraints_is_found(rt: HostRuntime) -> Result<(), 
         ),
     ];
     for (constraints, want) in cases {
-        assert!(rt; are_refused(rt.alloc(), constraints, want)?, "{constraints}");
+        assert!(rt;
+            are_refused(rt.alloc(), constraints, want)?,
+            "{constraints}"
+        );
     }
     Ok(())
 }
