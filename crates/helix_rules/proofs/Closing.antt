@@ -33,7 +33,8 @@ one_line lines i j one other =
 
 module _ (fields : List Field) (v : Json) where
   -- no relation closes a cycle
-  pub no_cycle : (lines : List Relation) → lines ≡ lines_of fields v → IsForest lines → Says (BreaksForest fields) v None
+  pub no_cycle : (lines : List Relation) → lines ≡ lines_of fields v → IsForest lines
+      → Says (BreaksForest fields) v None
   no_cycle lines is forest keys place broken =
       broken.closes.no_forest (subst IsForest is forest)
 

@@ -26,21 +26,21 @@ unfolding form_of has_form key_sets
 no_form = refl
 
 module _ (fields : List Field) where
-  operands_of : Json → List Relation
+  abbrev operands_of : Json → List Relation
   operands_of (json.Object' shape members) = operand_lines fields members
   operands_of v = []
 
-  branches_of : Json → List Relation
+  abbrev branches_of : Json → List Relation
   branches_of (json.Object' shape members) = branch_lines fields members
   branches_of v = []
 
   operands_are : (members : List Member) → operands_of (view.Object members) ≡ operands fields members
-  unfolding operands_of Rattle.helix_json.specs.declared.value.Json.TheBlock.hidden-the_row-Member-1 denote.Hole.Carrier.hidden
+  unfolding Rattle.helix_json.specs.declared.value.Json.TheBlock.hidden-the_row-Member-1 denote.Hole.Carrier.hidden
   operands_are [] = refl
   operands_are (m ∷ members) = ap (λ l. lines_in fields m.value ++ l) (operands_are members)
 
   branches_are : (members : List Member) → branches_of (view.Object members) ≡ branches fields members
-  unfolding branches_of Rattle.helix_json.specs.declared.value.Json.TheBlock.hidden-the_row-Member-1 denote.Hole.Carrier.hidden
+  unfolding Rattle.helix_json.specs.declared.value.Json.TheBlock.hidden-the_row-Member-1 denote.Hole.Carrier.hidden
   branches_are [] = refl
   branches_are (m ∷ members) = ap (λ l. list_lines fields m.value ++ l) (branches_are members)
 
@@ -51,7 +51,6 @@ module _ (fields : List Field) where
 
   object_is : (members : List Member) → lines_in fields (view.Object members)
       ≡ object_lines fields members (operands fields members) (branches fields members)
-  unfolding operands_of branches_of
   object_is members =
       ap (λ l. object_lines fields l (operands_of (view.Object members)) (branches_of (view.Object members)))
       (members_of_object members)
@@ -59,8 +58,8 @@ module _ (fields : List Field) where
       ∙ ap (λ l. object_lines fields members (operands fields members) l) (branches_are members))
 
   -- what was appended for an object, by what it has inside
-  pub by_inside : {A : Type 0} (members : List Member) (f : Option Form) (which other : Inside) (old new : List Relation)
-      (r : Result A Memory) → f ≡ form_of members → which ≡ inside_of f → which ≡ other
+  pub by_inside : {A : Type 0} (members : List Member) (f : Option Form) (which other : Inside)
+      (old new : List Relation) (r : Result A Memory) → f ≡ form_of members → which ≡ inside_of f → which ≡ other
       → OnOk r (new ≡ old ++ chosen_lines other (own_lines fields (related_of f) members) (operands fields members)
       (branches fields members)) → OnOk r (new ≡ old ++ lines_in fields (view.Object members))
   by_inside members f which other old new r f_is which_is is = on_ok r _ _ (λ e. e ∙ ap (λ l. old ++ l)

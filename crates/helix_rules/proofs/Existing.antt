@@ -63,7 +63,8 @@ first_in_row P key value row named = (
 later_in_row : {n : _} (P : Json → List Step → Type 0) (key : List ℕ) (value : Json) (row : Row_of-Member n)
     → ¬ (HasKey key row) → InRow P row → InRow P (json.more_of-Member key value row)
 later_in_row P key value row fresh there =
-    let other : key ≢ there.0 = λ same. fresh (let Q : List ℕ → Type 0 = λ k. HasKey k row in subst Q (sym same) there.2) in (
+    let other : key ≢ there.0 =
+    λ same. fresh (let Q : List ℕ → Type 0 = λ k. HasKey k row in subst Q (sym same) there.2) in (
       there.0,
       there.1,
       inr there.2,

@@ -83,7 +83,8 @@ own_below : (fields : List Field) (keyword : Option FieldKeyword) (members : Lis
     → AreBelow (own_lines fields keyword members)
 own_below fields None members = All-nil (HasEndsBelow max_fields)
 own_below fields (Some keyword) members =
-    of_below (index_by fields (value_of (codes "field") members)) (index_by fields (value_of (field_word keyword) members))
+    of_below (index_by fields (value_of (codes "field") members))
+    (index_by fields (value_of (field_word keyword) members))
 
 by_inside : (which : Inside) (own operands branches : List Relation) → AreBelow own → AreBelow operands
     → AreBelow branches → AreBelow (chosen_lines which own operands branches)
@@ -102,7 +103,8 @@ module _ (fields : List Field) where
     in_below (json.Object' shape members) = by_inside (inside_of (form_of (listed_members members)))
         (own_lines fields (related_of (form_of (listed_members members))) (listed_members members))
         (operand_lines fields members) (branch_lines fields members)
-        (own_below fields (related_of (form_of (listed_members members))) (listed_members members)) (operands_below members) (branches_below members)
+        (own_below fields (related_of (form_of (listed_members members))) (listed_members members))
+        (operands_below members) (branches_below members)
 
     list_below : (v : Json) → AreBelow (list_lines fields v)
     list_below json.Null = All-nil (HasEndsBelow max_fields)

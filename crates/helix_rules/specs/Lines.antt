@@ -47,7 +47,8 @@ related_of other = None
 -- the line between the fields that the members of a relation name
 abbrev pub line_with : List Field → FieldKeyword → List Member → Option Relation
 line_with fields keyword members =
-    line_of (index_by fields (value_of (codes "field") members)) (index_by fields (value_of (field_word keyword) members))
+    line_of (index_by fields (value_of (codes "field") members))
+    (index_by fields (value_of (field_word keyword) members))
 
 -- the lines of an object itself
 abbrev pub line_list : Option Relation → List Relation
@@ -126,10 +127,11 @@ IsAlong line own = (own.left ≡ line.left) × (own.right ≡ line.right)
 -- the constraint is a relation along the line, and the place is that of its keyword
 abbrev pub Joins : List Field → Relation → Json → List Step → Type 0
 Joins fields line v place = IsSomeAnd (related_of (form_of (members_of v))) (λ keyword.
-    (place ≡ step.Member (field_word keyword) ∷ []) × IsSomeAnd (line_with fields keyword (members_of v)) (IsAlong line))
+    (place ≡ step.Member (field_word keyword) ∷ [])
+    × IsSomeAnd (line_with fields keyword (members_of v)) (IsAlong line))
 
--- S21: The relations form a cycle. The place is that of the first relation which joins two fields that earlier ones link
--- already, but don't join: the first one along its line.
+-- S21: The relations form a cycle. The place is that of the first relation which joins two fields that earlier ones
+-- link already, but don't join: no earlier one is along its line, so it is the first that is.
 pub record BreaksForest (fields : List Field) (v : Json) (place : List Step) : Type 0 where
   pub index : ℕ
   pub closes : IsFirstToClose (lines_of fields v) index

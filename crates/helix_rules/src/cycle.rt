@@ -38,7 +38,8 @@ impl<'a> ConstraintRule for LineCheck<'a> {
 /// The place of the first relation that closes a cycle (S21).
 pub fn cycle_fault(alloc: Global, fields: &[Field], v: &Json) -> Result<Option<Place>, Memory>
     ensures place { IfOk result (λ found. HasNoRepeatedKey v.now → Finds v.now (BreaksForest fields.now v.now) found) }
-    ensures forest { IfOk result (λ found. HasNoRepeatedKey v.now → found ≡ None → IsForest (lines_of fields.now v.now)) }
+    ensures forest { IfOk result (λ found. HasNoRepeatedKey v.now → found ≡ None
+        → IsForest (lines_of fields.now v.now)) }
 {
     let lines = lines_of(alloc, fields, v)?;
     match check_forest(alloc, MAX_FIELDS, lines.as_slice()) {
@@ -65,7 +66,8 @@ fn closing_place(
     requires lines { lines.now ≡ lines_of fields.now v.now }
     requires closes { IsFirstToClose lines.now index }
     ensures place { IfOk result (λ found. HasNoRepeatedKey v.now → Finds v.now (BreaksForest fields.now v.now) found) }
-    ensures forest { IfOk result (λ found. HasNoRepeatedKey v.now → found ≡ None → IsForest (lines_of fields.now v.now)) }
+    ensures forest { IfOk result (λ found. HasNoRepeatedKey v.now → found ≡ None
+        → IsForest (lines_of fields.now v.now)) }
 {
     match lines.get(index as usize) {
         Some(line) => {

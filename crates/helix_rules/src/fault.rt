@@ -24,8 +24,8 @@ use helix_profile::Field;
 use helix_references::ReferenceRule;
 use std::alloc::Global;
 
-/// The first place in the text where a profile with these declared fields breaks one of the rules S1 to S21. None for any
-/// other rule.
+/// The first place in the text where a profile with these declared fields breaks one of the rules S1 to S21. None for
+/// any other rule.
 pub fn fault_of(
     alloc: Global,
     rule: Rule,

@@ -14,8 +14,9 @@
 //! its rule alone and is total; rules on the text, on profiles of the older form, on set files and on what a run asks
 //! for are broken nowhere here. All of it is for values in which no object repeats a key, which is what a reader gives.
 //!
-//! The rules S8 to S20 are about constraints, each by itself, wherever it is in the profile. S21 is about their relations
-//! in the order of the text: [`cycle_fault`] answers None only where the lines between related fields form a forest.
+//! The rules S8 to S20 are about constraints, each by itself, wherever it is in the profile. S21 is about their
+//! relations in the order of the text: [`cycle_fault`] answers None only where the lines between related fields form a
+//! forest.
 //!
 //! No clause says what a call costs: each rule is one search through the value, up to the first place, and the fields
 //! are read once. Only memory that runs out makes a call fail.

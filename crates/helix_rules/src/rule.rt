@@ -79,7 +79,8 @@ pub enum Rule {
 macro_rules! each_rule {
     ($rows:ident) => {
         $rows! {
-            J1 J2 J3 J4 J5 S1 L1 L2 L3 L4 S2 S3 S4 S5 S6 S7 S8 S9 S10 S11 S12 S13 S14 S15 S16 S17 S18 S19 S20 S21 S22 S23
+            J1 J2 J3 J4 J5 S1 L1 L2 L3 L4 S2 S3 S4 S5 S6 S7 S8 S9 S10
+            S11 S12 S13 S14 S15 S16 S17 S18 S19 S20 S21 S22 S23
         }
     };
 }

@@ -1,73 +1,78 @@
-use crate::{PROFILE_RULES, Rule, first_breach};
+use crate::{Breach, PROFILE_RULES, Rule, first_breach};
 use helix_base::{Alphabet, Memory, Text};
 use helix_json::{Json, read};
 use helix_places::pointer_of;
 use std::alloc::Global;
 use std::test::Fail;
 
-/// Fields of each class: a boolean `b`, integers `i` and `j`, a decimal `n`, a string `s`, a date `d` and a date-time `t`.
+/// Fields of each class: a boolean `b`, integers `i` and `j`, a decimal `n`, a string `s`, a date `d`, a date-time `t`.
 const FIELDS: &str = concat!(
-    r#"{"fields":[{"name":"b","type":"boolean"},{"name":"i","type":"integer"},{"name":"n","type":"decimal"},"#,
-    r#"{"name":"j","type":"integer"},{"name":"s","type":"string"},{"name":"d","type":"date"},{"name":"t","type":"datetime"}],"constraints":["#,
+    r#"{"fields":[{"name":"b","type":"boolean"},{"name":"i","type":"integer"},"#,
+    r#"{"name":"n","type":"decimal"},{"name":"j","type":"integer"},{"name":"s","type":"string"},"#,
+    r#"{"name":"d","type":"date"},{"name":"t","type":"datetime"}],"constraints":["#,
 );
 
-/// The first broken rule of S1 and then S2 to S21, and the pointer of its place: `S9 #/constraints/0/field`.
-fn breach(alloc: Global, v: &Json) -> Result<Text, Memory> {
-    let whole = first_breach(alloc, Alphabet::Basic, &[Rule::S1], v)?;
-    let found = match whole {
-        Some(breach) => Some(breach),
-        None => first_breach(alloc, Alphabet::Basic, &PROFILE_RULES, v)?,
-    };
-    let mut text = Text::new(alloc);
-    if let Some(breach) = found {
-        helix_places::push_bytes(&mut text, breach.rule.name().as_bytes())?;
-        text.push(' ' as u32)?;
-        for code in pointer_of(alloc, &breach.place)?.codes() {
-            text.push(*code)?;
-        }
+/// The first breach of S1, and then of S2 to S21.
+fn breach(alloc: Global, v: &Json) -> Result<Option<Breach>, Memory> {
+    match first_breach(alloc, Alphabet::Basic, &[Rule::S1], v)? {
+        Some(breach) => Ok(Some(breach)),
+        None => first_breach(alloc, Alphabet::Basic, &PROFILE_RULES, v),
     }
-    Ok(text)
 }
 
-/// Whether this is the first broken rule of the value that a text spells.
-fn is_refused(alloc: Global, text: &[u8], want: &str) -> Result<bool, Fail> {
+/// Whether a breach is of the rule with this name, and its place has this pointer.
+fn is_at(alloc: Global, breach: &Breach, rule: &str, pointer: &str) -> Result<bool, Memory> {
+    let found = pointer_of(alloc, &breach.place)?;
+    let want = Text::of(alloc, pointer)?;
+    Ok(breach.rule.name() == rule && found.codes() == want.codes())
+}
+
+/// Whether the value that a text spells breaks this rule first, and none where the rule's name is empty.
+fn is_refused(alloc: Global, text: &[u8], rule: &str, pointer: &str) -> Result<bool, Fail> {
     let json = read(alloc, text)?;
-    let found = breach(alloc, &json)?;
-    let want = Text::of(alloc, want)?;
-    Ok(found.codes() == want.codes())
+    match breach(alloc, &json)? {
+        Some(breach) => Ok(is_at(alloc, &breach, rule, pointer)?),
+        None => Ok(rule.is_empty()),
+    }
 }
 
 /// The same of a profile with fields of each class and these constraints.
-fn are_refused(alloc: Global, constraints: &str, want: &str) -> Result<bool, Fail> {
+fn are_refused(alloc: Global, constraints: &str, rule: &str, pointer: &str) -> Result<bool, Fail> {
     let mut text = Vec::from_slice(alloc, FIELDS.as_bytes())?;
     text.extend_from_slice(constraints.as_bytes())?;
     text.extend_from_slice(b"]}")?;
-    is_refused(alloc, text.as_slice(), want)
+    is_refused(alloc, text.as_slice(), rule, pointer)
 }
 
 #[test]
 fn the_first_broken_rule_of_a_profile_is_found(rt: HostRuntime) -> Result<(), Fail> {
     let cases = [
-        ("[]", "S1 #"),
-        (r#"{"x":1}"#, "S2 #/x"),
-        (r#"{"constraints":1}"#, "S3 #"),
-        (r#"{"fields":[1],"constraints":1}"#, "S4 #/fields/0"),
+        ("[]", "S1", "#"),
+        (r#"{"x":1}"#, "S2", "#/x"),
+        (r#"{"constraints":1}"#, "S3", "#"),
+        (r#"{"fields":[1],"constraints":1}"#, "S4", "#/fields/0"),
         (
             r#"{"fields":[{"name":"","type":"date","unique":true}]}"#,
-            "S5 #/fields/0/name",
+            "S5",
+            "#/fields/0/name",
         ),
         (
             r#"{"constraints":{},"fields":[{"name":"a","type":"date","unique":true}]}"#,
-            "S6 #/fields/0/unique",
+            "S6",
+            "#/fields/0/unique",
         ),
         (
             r#"{"constraints":{},"fields":[{"name":"a","type":"date"}]}"#,
-            "S7 #/constraints",
+            "S7",
+            "#/constraints",
         ),
-        (r#"{"fields":[{"name":"a","type":"date"}]}"#, ""),
+        (r#"{"fields":[{"name":"a","type":"date"}]}"#, "", ""),
     ];
-    for (text, want) in cases {
-        assert!(rt; is_refused(rt.alloc(), text.as_bytes(), want)?, "{text}");
+    for (text, rule, place) in cases {
+        assert!(rt;
+            is_refused(rt.alloc(), text.as_bytes(), rule, place)?,
+            "{text}"
+        );
     }
     Ok(())
 }
@@ -76,25 +81,41 @@ fn the_first_broken_rule_of_a_profile_is_found(rt: HostRuntime) -> Result<(), Fa
 fn the_first_relation_that_closes_a_cycle_is_found(rt: HostRuntime) -> Result<(), Fail> {
     let cases = [
         (
-            r#"{"field":"i","equalToField":"n"},{"not":{"field":"j","lessThanField":"n"}},{"field":"j","equalToField":"i"}"#,
-            "S21 #/constraints/2/equalToField",
+            concat!(
+                r#"{"field":"i","equalToField":"n"},{"not":{"field":"j","lessThanField":"n"}},"#,
+                r#"{"field":"j","equalToField":"i"}"#,
+            ),
+            "S21",
+            "#/constraints/2/equalToField",
         ),
         (
-            r#"{"anyOf":[{"field":"i","equalToField":"n"},{"greaterThanField":"i","field":"j"}]},{"if":{"field":"n","lessThanField":"j"},"then":{"field":"i","equalToField":"j"}}"#,
-            "S21 #/constraints/1/if/lessThanField",
+            concat!(
+                r#"{"anyOf":[{"field":"i","equalToField":"n"},{"greaterThanField":"i","field":"j"}]},"#,
+                r#"{"if":{"field":"n","lessThanField":"j"},"then":{"field":"i","equalToField":"j"}}"#,
+            ),
+            "S21",
+            "#/constraints/1/if/lessThanField",
         ),
         (
-            r#"{"field":"i","equalToField":"n"},{"field":"n","lessThanField":"i"},{"field":"i","equalToField":"j"},{"field":"d","equalToField":"t"}"#,
+            concat!(
+                r#"{"field":"i","equalToField":"n"},{"field":"n","lessThanField":"i"},"#,
+                r#"{"field":"i","equalToField":"j"},{"field":"d","equalToField":"t"}"#,
+            ),
+            "",
             "",
         ),
         (
-            r#"{"field":"i","equalToField":"n"},{"field":"j","lessThanField":"n"},{"field":"j","equalToField":"i"},{"field":"d","afterField":"t","offset":1}"#,
-            "S20 #/constraints/3/offset",
+            concat!(
+                r#"{"field":"i","equalToField":"n"},{"field":"j","lessThanField":"n"},"#,
+                r#"{"field":"j","equalToField":"i"},{"field":"d","afterField":"t","offset":1}"#,
+            ),
+            "S20",
+            "#/constraints/3/offset",
         ),
     ];
-    for (constraints, want) in cases {
+    for (constraints, rule, place) in cases {
         assert!(rt;
-            are_refused(rt.alloc(), constraints, want)?,
+            are_refused(rt.alloc(), constraints, rule, place)?,
             "{constraints}"
         );
     }
@@ -104,67 +125,88 @@ fn the_first_relation_that_closes_a_cycle_is_found(rt: HostRuntime) -> Result<()
 #[test]
 fn the_first_broken_rule_of_constraints_is_found(rt: HostRuntime) -> Result<(), Fail> {
     let cases = [
-        (r#"{"field":"s","equalTo":1,"x":1}"#, "S8 #/constraints/0"),
+        (
+            r#"{"field":"s","equalTo":1,"x":1}"#,
+            "S8",
+            "#/constraints/0",
+        ),
         (
             r#"{"field":"z","equalTo":1},{"not":{"anyOf":1}}"#,
-            "S8 #/constraints/1/not/anyOf",
+            "S8",
+            "#/constraints/1/not/anyOf",
         ),
         (
             r#"{"field":"s","after":1},{"equalToField":"z","field":"i"}"#,
-            "S9 #/constraints/1/equalToField",
+            "S9",
+            "#/constraints/1/equalToField",
         ),
         (
             r#"{"not":{"field":"s","equalTo":1}},{"field":"i","after":1}"#,
-            "S10 #/constraints/1/after",
+            "S10",
+            "#/constraints/1/after",
         ),
         (
             r#"{"field":"i","equalTo":0.5},{"field":"i","inSet":[1,"x"]}"#,
-            "S11 #/constraints/1/inSet/1",
+            "S11",
+            "#/constraints/1/inSet/1",
         ),
         (
             r#"{"anyOf":[]},{"allOf":[{"inSet":[1,2.0,2.5],"field":"i"}]}"#,
-            "S12 #/constraints/1/allOf/0/inSet/2",
+            "S12",
+            "#/constraints/1/allOf/0/inSet/2",
         ),
         (
             r#"{"field":"n","granularTo":2},{"field":"s","inSet":[]}"#,
-            "S13 #/constraints/1/inSet",
+            "S13",
+            "#/constraints/1/inSet",
         ),
         (
-            r#"{"field":"s","ofLength":-1},{"if":{"field":"d","granularTo":"weeks"},"then":{"field":"b","isNull":true}}"#,
-            "S14 #/constraints/1/if/granularTo",
+            concat!(
+                r#"{"field":"s","ofLength":-1},"#,
+                r#"{"if":{"field":"d","granularTo":"weeks"},"then":{"field":"b","isNull":true}}"#,
+            ),
+            "S14",
+            "#/constraints/1/if/granularTo",
         ),
         (
             r#"{"field":"s","matchingRegex":"("},{"field":"s","longerThan":1001}"#,
-            "S15 #/constraints/1/longerThan",
+            "S15",
+            "#/constraints/1/longerThan",
         ),
         (
             r#"{"anyOf":[]},{"field":"s","containingRegex":"("}"#,
-            "S16 #/constraints/1/containingRegex",
+            "S16",
+            "#/constraints/1/containingRegex",
         ),
         (
             r#"{"field":"i","equalToField":"s"},{"anyOf":[]}"#,
-            "S17 #/constraints/1/anyOf",
+            "S17",
+            "#/constraints/1/anyOf",
         ),
         (
             r#"{"field":"i","equalToField":"i"},{"field":"i","equalToField":"s"}"#,
-            "S18 #/constraints/1/equalToField",
+            "S18",
+            "#/constraints/1/equalToField",
         ),
         (
             r#"{"field":"i","equalToField":"n","offset":"x"},{"field":"i","equalToField":"i"}"#,
-            "S19 #/constraints/1/equalToField",
+            "S19",
+            "#/constraints/1/equalToField",
         ),
         (
             r#"{"field":"t","afterField":"d","offset":1},{"field":"t","afterField":"d","offsetUnit":"days"}"#,
-            "S20 #/constraints/0/offset",
+            "S20",
+            "#/constraints/0/offset",
         ),
         (
             r#"{"field":"t","afterField":"d","offset":1,"offsetUnit":"days"},{"field":"s","inSet":"names.csv"}"#,
             "",
+            "",
         ),
     ];
-    for (constraints, want) in cases {
+    for (constraints, rule, place) in cases {
         assert!(rt;
-            are_refused(rt.alloc(), constraints, want)?,
+            are_refused(rt.alloc(), constraints, rule, place)?,
             "{constraints}"
         );
     }
