@@ -1,5 +1,5 @@
 -- The test of a field that the members of an object give.
-use Rattle.std.proofs.Common.{◌≡◌, ℕ, ◌<◌, Bool, true, MatchBool, List, length, Option, Some, None, slice_get, get_or, codes, Result, IfOk, refl, sym, ◌∙◌, ap, subst}
+use Rattle.std.proofs.Common.{◌≡◌, ℕ, ◌<◌, Bool, true, MatchBool, List, length, Option, Some, None, get_or, codes, Result, IfOk, refl, sym, ◌∙◌, ap, subst}
 use Rattle.std.specs.Option.{IsSomeAnd}
 use Rattle.std.proofs.lemmas.Option.{slice_get_read}
 use Rattle.helix_base.specs.declared.memory.Memory.{Memory}
@@ -17,7 +17,7 @@ use Rattle.helix_profile.specs.declared.test.Atom.{Atom}
 use Rattle.helix_profile.specs.declared.test.Test.{Test}
 use Rattle.helix_profile.specs.declared.test.Test.TheVariants as test
 use Rattle.helix_references.specs.Naming.{index_by, kind_by}
-use Rattle.helix_references.specs.RelationLaws.{NamedField, named_field}
+use Rattle.helix_references.specs.RelationLaws.{named_field}
 use Rattle.helix_values.specs.declared.kind.Kind.{Kind}
 use Rattle.helix_readings.specs.Given.{GivesAtom, GivesTestAt, at_key}
 use Rattle.helix_readings.specs.Sets.{HasMembers}

@@ -1,5 +1,5 @@
 -- What a constraint under a condition is read from.
-use Rattle.std.proofs.Common.{◌≡◌, ℕ, List, Option, Some, None, codes, Result, IfOk, refl, ap, subst}
+use Rattle.std.proofs.Common.{◌≡◌, ℕ, List, Option, Some, None, codes, Result, IfOk, refl, subst}
 use Rattle.helix_base.specs.declared.memory.Memory.{Memory}
 use Rattle.helix_fields.specs.SearchLaws.{if_ok}
 use Rattle.helix_json.specs.declared.value.Member.{Member}

@@ -1,9 +1,7 @@
 -- What a value gives from what its members or its items give, call by call.
-use Rattle.std.proofs.Common.{◌≡◌, ◌≢◌, ◌↔◌, ℕ, zero, suc, ◌+◌, ◌<◌, ◌≤◌, Bool, true, false, if◌then◌else◌, List, [], ◌∷◌, ◌++◌, length, drop, take, Option, Some, None, slice_get, get_or, codes, Result, IfOk, refl, sym, ◌∙◌, ap, subst, arith}
+use Rattle.std.proofs.Common.{◌≡◌, ◌↔◌, ℕ, zero, suc, ◌+◌, ◌<◌, ◌≤◌, Bool, true, false, if◌then◌else◌, List, [], ◌∷◌, length, drop, Option, Some, None, get_or, Result, IfOk, refl, sym, ◌∙◌, ap, subst, arith}
 use Rattle.std.specs.Option.{IsSomeAnd}
 use Rattle.std.specs.Str.{bytes_eq}
-use Rattle.std.proofs.lemmas.List.{take_more}
-use Rattle.std.proofs.lemmas.Option.{slice_get_read}
 use Rattle.helix_base.specs.declared.memory.Memory.{Memory}
 use Rattle.helix_fields.specs.SearchLaws.{if_ok}
 use Rattle.helix_json.specs.declared.value.Json.{Json}
@@ -13,13 +11,13 @@ use Rattle.helix_keywords.specs.Forms.{form_of}
 use Rattle.helix_keywords.specs.declared.form.Form.{Form}
 use Rattle.helix_operands.specs.Values.{Reads}
 use Rattle.helix_places.proofs.Words.{value_step}
-use Rattle.helix_places.specs.Members.{is_list, members_of, value_of}
+use Rattle.helix_places.specs.Members.{members_of, value_of}
 use Rattle.helix_places.specs.PlaceLaws.{some_and, and_some}
 use Rattle.helix_places.specs.declared.place.Step.{Step}
 use Rattle.helix_profile.specs.declared.constraint.Constraint.{Constraint}
 use Rattle.helix_profile.specs.declared.field.Field.{Field}
-use Rattle.helix_readings.specs.Given.{AreGiven, GivesConstraint, GivesList, at_index, at_key}
-use Rattle.helix_readings.specs.GivenLaws.{list_gives, no_list_gives, nothing_gives, object_gives}
+use Rattle.helix_readings.specs.Given.{GivesConstraint, GivesList, at_key}
+use Rattle.helix_readings.specs.GivenLaws.{nothing_gives, object_gives}
 use Rattle.helix_readings.specs.Inner.Operands.{MembersGive, OperandGives, OperandsGive}
 use Rattle.helix_readings.specs.declared.sets.SetMembers.{SetMembers}
 

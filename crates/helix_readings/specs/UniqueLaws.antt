@@ -1,5 +1,5 @@
 -- A value gives at most one constraint. Lemmas for this crate and those above.
-use Rattle.std.proofs.Common.{◌≡◌, ◌≢◌, ℕ, ◌+◌, ◌⊎◌, Bool, true, false, MatchBool, List, [], ◌∷◌, Option, Some, None, codes, refl, sym, ◌∙◌, ap, subst, ⊎_elim}
+use Rattle.std.proofs.Common.{◌≡◌, ℕ, ◌+◌, Bool, true, false, MatchBool, List, [], ◌∷◌, Option, Some, None, codes, refl, sym, ◌∙◌, ap, ⊎_elim}
 use Rattle.std.specs.Option.{IsSomeAnd}
 use Rattle.std.specs.Str.{bytes_eq}
 use Rattle.helix_json.specs.declared.value.Json.{Json, Row_of-Json, Row_of-Member}
@@ -9,7 +9,6 @@ use Rattle.helix_keywords.specs.Forms.{form_of}
 use Rattle.helix_keywords.specs.Keywords.{word_of}
 use Rattle.helix_keywords.specs.declared.form.Form.{Form}
 use Rattle.helix_keywords.specs.declared.form.Form.TheVariants as form
-use Rattle.helix_keywords.specs.declared.keyword.FieldKeyword.{FieldKeyword}
 use Rattle.helix_keywords.specs.declared.keyword.Keyword.{Keyword}
 use Rattle.helix_operands.specs.MadeLaws.{one_made}
 use Rattle.helix_operands.specs.Tests.{GivesTest, Makes, names_set_file}
@@ -24,9 +23,8 @@ use Rattle.helix_profile.specs.declared.test.Test.{Test}
 use Rattle.helix_profile.specs.declared.test.Test.TheVariants as test
 use Rattle.helix_references.specs.Naming.{kind_by}
 use Rattle.helix_references.specs.UniqueLaws.{one_relation}
-use Rattle.helix_values.specs.declared.cell.Cell.{Cell}
 use Rattle.helix_values.specs.declared.kind.Kind.{Kind}
-use Rattle.helix_readings.specs.Given.{AreGiven, GivesAtom, GivesAtomic, GivesByForm, GivesConstraint, GivesEach, GivesElse, GivesList, GivesOperand, GivesOperands, GivesRelated, GivesTestAt, GivesThen, GivesThenElse, at_index, at_key}
+use Rattle.helix_readings.specs.Given.{AreGiven, GivesAtom, GivesByForm, GivesConstraint, GivesEach, GivesList, GivesOperand, GivesOperands, GivesTestAt, at_index, at_key}
 use Rattle.helix_readings.specs.Sets.{HasMembers}
 use Rattle.helix_readings.specs.declared.sets.SetMembers.{SetMembers}
 

@@ -1,18 +1,49 @@
 //! Constraints made of others.
 
-ghost use Rattle.std.specs.Prelude.{◌≡◌, Some, None, IfOk};
-ghost use Rattle.helix_profile.specs.declared.constraint.Constraint.TheViews.{If, Not};
+ghost use Rattle.std.specs.Prelude.{◌≡◌, ◌↔◌, Some, None, [], option_map, IfOk, IsTrue};
+ghost use Rattle.helix_profile.specs.declared.constraint.Constraint.TheViews.{AllOf, AnyOf, If, Not};
 
 use helix_base::Memory;
-use helix_profile::Constraint;
+use helix_json::Json;
+use helix_profile::{Constraint, Parts};
 use sqlite_items::Boxed;
 use std::alloc::Global;
 
-/// The negation of a constraint.
-pub fn not_of(alloc: Global, negated: Constraint) -> Result<Constraint, Memory>
-    ensures { IfOk result (λ made. made ≡ Not negated) }
+/// The negation of a constraint that may be missing.
+pub fn negation_of(alloc: Global, negated: Option<Constraint>) -> Result<Option<Constraint>, Memory>
+    ensures { IfOk result (λ made. made ≡ option_map Not negated) }
 {
-    Ok(Constraint::Not(Boxed::new(alloc, negated)?))
+    match negated {
+        Some(negated) => Ok(Some(Constraint::Not(Boxed::new(alloc, negated)?))),
+        None => Ok(None),
+    }
+}
+
+/// All of the parts, which may be missing.
+pub fn all_of(parts: Option<Parts>) -> Option<Constraint>
+    ensures { result ≡ option_map AllOf parts }
+{
+    match parts {
+        Some(parts) => Some(Constraint::AllOf(parts)),
+        None => None,
+    }
+}
+
+/// Any of the parts, which may be missing.
+pub fn any_of(parts: Option<Parts>) -> Option<Constraint>
+    ensures { result ≡ option_map AnyOf parts }
+{
+    match parts {
+        Some(parts) => Some(Constraint::AnyOf(parts)),
+        None => None,
+    }
+}
+
+/// Whether a list has no items.
+pub fn is_empty_list(items: &[Json]) -> bool
+    ensures { IsTrue result ↔ (items.now ≡ []) }
+{
+    items.is_empty()
 }
 
 /// A constraint under a condition.

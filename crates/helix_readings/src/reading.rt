@@ -1,6 +1,6 @@
 //! The constraint that a value gives, by its form.
 
-ghost use Rattle.std.specs.Prelude.{◌≡◌, ◌↔◌, ◌^◌, ◌<◌, Some, None, [], length, IfOk, IsTrue};
+ghost use Rattle.std.specs.Prelude.{◌≡◌, ◌^◌, ◌<◌, Some, length, IfOk};
 ghost use Rattle.helix_json.specs.declared.value.Json.TheViews as view;
 ghost use Rattle.helix_keywords.specs.Forms.{form_of};
 ghost use Rattle.helix_keywords.specs.declared.form.Form.TheVariants as forms;
@@ -9,7 +9,7 @@ ghost use Rattle.helix_readings.specs.Given.{AreGiven, GivesConstraint, GivesEls
 ghost use Rattle.helix_readings.specs.Inner.Operands.{MembersGive, OperandGives, OperandsGive};
 
 use crate::leaf::{atomic, related};
-use crate::made::{if_else_of, if_of, not_of};
+use crate::made::{all_of, any_of, if_else_of, if_of, is_empty_list, negation_of};
 use crate::path::{place_at_index, place_at_key};
 use crate::sets::SetMembers;
 use helix_base::Memory;
@@ -51,62 +51,20 @@ fn read_object(
     match form_of(members) {
         Some(Form::Atom(keyword)) => atomic(alloc, fields, sets, place, members, keyword),
         Some(Form::Related(keyword)) => Ok(related(fields, members, keyword)),
-        Some(Form::Not) => read_not(alloc, fields, sets, place, members),
-        Some(Form::AllOf) => read_all_of(alloc, fields, sets, place, members),
-        Some(Form::AnyOf) => read_any_of(alloc, fields, sets, place, members),
+        Some(Form::Not) => {
+            let found = read_operand(alloc, fields, sets, place, members, "not")?;
+            negation_of(alloc, found)
+        }
+        Some(Form::AllOf) => {
+            let found = read_operands(alloc, fields, sets, place, members, "allOf")?;
+            Ok(all_of(found))
+        }
+        Some(Form::AnyOf) => {
+            let found = read_operands(alloc, fields, sets, place, members, "anyOf")?;
+            Ok(any_of(found))
+        }
         Some(Form::If) => read_if(alloc, fields, sets, place, members),
         Some(Form::IfElse) => read_if_else(alloc, fields, sets, place, members),
-        None => Ok(None),
-    }
-}
-
-#[cycle(read)]
-fn read_not(
-    alloc: Global,
-    fields: &[Field],
-    sets: &[SetMembers],
-    place: &Place,
-    members: &[Member],
-) -> Result<Option<Constraint>, Memory>
-    requires { length fields.now < 2 ^ 32 }
-    ensures { IfOk result (Reads (MembersGive fields.now sets.now place.now members.now (Some forms.Not))) }
-{
-    match read_operand(alloc, fields, sets, place, members, "not")? {
-        Some(negated) => Ok(Some(not_of(alloc, negated)?)),
-        None => Ok(None),
-    }
-}
-
-#[cycle(read)]
-fn read_all_of(
-    alloc: Global,
-    fields: &[Field],
-    sets: &[SetMembers],
-    place: &Place,
-    members: &[Member],
-) -> Result<Option<Constraint>, Memory>
-    requires { length fields.now < 2 ^ 32 }
-    ensures { IfOk result (Reads (MembersGive fields.now sets.now place.now members.now (Some forms.AllOf))) }
-{
-    match read_operands(alloc, fields, sets, place, members, "allOf")? {
-        Some(parts) => Ok(Some(Constraint::AllOf(parts))),
-        None => Ok(None),
-    }
-}
-
-#[cycle(read)]
-fn read_any_of(
-    alloc: Global,
-    fields: &[Field],
-    sets: &[SetMembers],
-    place: &Place,
-    members: &[Member],
-) -> Result<Option<Constraint>, Memory>
-    requires { length fields.now < 2 ^ 32 }
-    ensures { IfOk result (Reads (MembersGive fields.now sets.now place.now members.now (Some forms.AnyOf))) }
-{
-    match read_operands(alloc, fields, sets, place, members, "anyOf")? {
-        Some(parts) => Ok(Some(Constraint::AnyOf(parts))),
         None => Ok(None),
     }
 }
@@ -291,10 +249,4 @@ fn read_parts(
         }
     }
     Ok(Some(parts))
-}
-
-fn is_empty_list(items: &[Json]) -> bool
-    ensures { IsTrue result ↔ (items.now ≡ []) }
-{
-    items.is_empty()
 }

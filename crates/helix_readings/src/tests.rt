@@ -136,9 +136,13 @@ fn print_parts(out: &mut Vec<u8>, parts: &[Constraint]) -> Result<(), Memory> {
 fn gives(alloc: Global, text: &str, short: &str) -> Result<bool, Fail> {
     let json = read(alloc, text.as_bytes())?;
     let fields = three_fields(alloc)?;
+    let fields = fields.as_slice();
+    if fields.len() != 3 {
+        return Ok(false);
+    }
     let sets = two_sets(alloc)?;
     let mut out = Vec::new(alloc);
-    match read_constraints(alloc, fields.as_slice(), &sets, &json)? {
+    match read_constraints(alloc, fields, &sets, &json)? {
         Some(constraints) => print_parts(&mut out, constraints.as_slice())?,
         None => out.push(b'-')?,
     }

@@ -1,6 +1,5 @@
 -- What the members of an object give, as code sees them.
 use Rattle.std.specs.Prelude.{ℕ, List, Option, IsSomeAnd}
-use Rattle.helix_json.specs.declared.value.Json.{Json}
 use Rattle.helix_json.specs.declared.value.Member.{Member}
 use Rattle.helix_keywords.specs.declared.form.Form.{Form}
 use Rattle.helix_places.specs.Members.{value_of}
