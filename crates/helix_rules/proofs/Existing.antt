@@ -3,7 +3,7 @@ use Rattle.std.proofs.Common.{◌≡◌, ◌≢◌, ◌⊎◌, inl, inr, ⊎_eli
 use Rattle.std.specs.Option.{IsSomeAnd}
 use Rattle.helix_constraints.specs.declared.role.Role.{Role}
 use Rattle.helix_constraints.specs.declared.role.Role.TheVariants as role
-use Rattle.helix_constraints.specs.Visited.{InConstraints, Visited, role_by_form, role_of_parts}
+use Rattle.helix_constraints.specs.Visited.{InConstraint, InConstraints, Visited, role_by_form, role_of_parts}
 use Rattle.helix_json.specs.declared.value.Json.{Json, Row_of-Json, Row_of-Member}
 use Rattle.helix_json.specs.declared.value.Json as json
 use Rattle.helix_json.specs.declared.value.Member.{Member}
@@ -15,10 +15,10 @@ use Rattle.helix_keywords.specs.Forms.{form_of}
 use Rattle.helix_keywords.specs.Keywords.{field_word}
 use Rattle.helix_places.specs.declared.place.Step.{Step}
 use Rattle.helix_places.specs.declared.place.Step.TheVariants as step
-use Rattle.helix_places.specs.Members.{listed_items, listed_members, members_of, value_of}
+use Rattle.helix_places.specs.Members.{items_of, listed_items, listed_members, members_of, value_of}
 use Rattle.helix_places.specs.KeyLaws.{bytes_same, other_bytes}
 use Rattle.helix_places.specs.PartLaws.{Named}
-use Rattle.helix_places.specs.Places.{part}
+use Rattle.helix_places.specs.Places.{InItem, part}
 use Rattle.helix_places.specs.PlaceLaws.{and_some}
 use Rattle.helix_fields.specs.SearchLaws.{keys_under}
 use Rattle.helix_profile.specs.declared.field.Field.{Field}
@@ -169,16 +169,29 @@ module _ (fields : List Field) (line : Relation) where
         (λ later. later_in_row (Visited (Joins fields line) role.Many) key value row keys.0
         (branches_named row keys.2 later)) (split line (list_lines fields value) (branch_lines fields row) h)
 
+  top_named : (v : Json) → HasNoRepeatedKey v → Lists line (list_lines fields v)
+      → Named (InItem (InConstraint (Joins fields line))) v
+  top_named json.Null keys h = absurd h
+  top_named (json.Bool b) keys h = absurd h
+  top_named (json.Number text) keys h = absurd h
+  top_named (json.Str text) keys h = absurd h
+  top_named (json.List' shape items) keys h = let there = items_named items keys h in (
+    step.Item there.0 ∷ there.3.0,
+    and_some (slice_get (items_of (json.List' shape items)) there.0)
+        (λ u. InConstraint (Joins fields line) u there.3.0) there.1 there.2 there.3.1,
+  )
+  top_named (json.Object' shape row) keys h = absurd h
+
   under_named : (v : Json) (o : Option Json) → HasNoRepeatedKey v → value_of (codes "constraints") (members_of v) ≡ o
       → Lists line (lines_under fields o) → Named (InConstraints (Joins fields line)) v
   under_named v None keys is h = absurd h
   under_named v (Some w) keys is h =
-      let there = list_named w (keys_under v (codes "constraints") w keys is) h in (
+      let there = top_named w (keys_under v (codes "constraints") w keys is) h in (
         step.Member (codes "constraints") ∷ there.0,
         (
           refl,
           and_some (value_of (codes "constraints") (members_of v))
-              (λ u. Visited (Joins fields line) role.Many u there.0) w is there.1,
+              (λ u. InItem (InConstraint (Joins fields line)) u there.0) w is there.1,
         ),
       )
 
