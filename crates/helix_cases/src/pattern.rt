@@ -1,7 +1,7 @@
 //! The expression that a pattern spells.
 
 use helix_base::{Memory, Text};
-use helix_regex::{Expr, Regex, RegexError, parse};
+use helix_regex::{Expr, Regex, parse};
 use std::alloc::Global;
 
 /// An expression as short text: codes and ranges of codes, parts in parentheses, and numbers in braces.
@@ -57,18 +57,12 @@ fn push_ranges(alloc: Global, out: &mut String, ranges: &[(u32, u32)]) -> Result
     Ok(())
 }
 
-/// The expression that a pattern spells, or None where it is refused.
-pub fn regex_of(alloc: Global, pattern: &str) -> Result<Option<Regex>, Memory> {
-    match parse(alloc, &Text::of(alloc, pattern)?) {
-        Ok(regex) => Ok(Some(regex)),
-        Err(RegexError::Fault(_)) => Ok(None),
-        Err(RegexError::Memory) => Err(Memory),
-    }
-}
-
 /// What a pattern gives, as short text: the expression between its anchors, or the rule and the offset.
-pub fn answer(alloc: Global, pattern: &str) -> Result<String, Memory> {
-    let text = Text::of(alloc, pattern)?;
+pub fn answer(alloc: Global, bytes: Vec<u8>) -> Result<String, Memory> {
+    let Ok(pattern) = String::from_utf8(bytes) else {
+        return Ok(format!(in alloc; "no text")?);
+    };
+    let text = Text::of(alloc, pattern.as_str())?;
     match parse(alloc, &text) {
         Ok(
             Regex {
