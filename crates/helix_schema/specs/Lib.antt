@@ -1,0 +1,2 @@
+-- what public clauses rest on
+pub mod Mentions
