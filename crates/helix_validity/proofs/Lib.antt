@@ -1,0 +1,16 @@
+pub mod Parts
+pub mod Fields
+pub mod Sound
+pub mod Gives
+pub mod Walking
+pub mod Built
+pub mod Own
+pub mod Fitting
+pub mod Joined
+pub mod First
+pub mod Closing
+pub mod Forests
+pub mod Leaves
+pub mod Given
+pub mod Whole
+pub mod Breaching
