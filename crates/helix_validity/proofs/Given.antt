@@ -1,20 +1,16 @@
 -- The constraints of a profile that breaks no rule are given.
-use Rattle.std.proofs.Common.{◌≡◌, ◌≢◌, inl, inr, ℕ, suc, ◌+◌, Bool, true, false, not, ◌&&◌, ◌||◌, ◌==◌, if◌then◌else◌, List, [], ◌∷◌, length, Option, Some, None, IsSome, slice_get, codes, refl, sym, ◌∙◌, ap, subst, arith}
-use Rattle.std.proofs.lemmas.Bool.{and_parts, or_cases}
-use Rattle.std.specs.List.{list_all}
+use Rattle.std.proofs.Common.{◌≡◌, ◌≢◌, inr, ℕ, suc, ◌+◌, Bool, true, not, ◌&&◌, ◌==◌, if◌then◌else◌, List, [], ◌∷◌, length, Option, Some, None, IsSome, slice_get, codes, refl, sym, ◌∙◌, ap, subst, arith}
 use Rattle.helix_constraints.specs.Rules.{AtOperand, BreaksForm, BreaksSize, form_in, is_empty_list, is_no_list, list_key}
 use Rattle.helix_constraints.specs.Visited.{role_by_form, role_of_parts}
 use Rattle.helix_constraints.specs.declared.role.Role.TheVariants as role
 use Rattle.helix_fields.specs.FieldLaws.{not_false}
 use Rattle.helix_fields.specs.Under.{items_of_some}
 use Rattle.helix_json.specs.declared.value.Json.{Json}
-use Rattle.helix_json.specs.declared.value.Member.{Member}
 use Rattle.helix_keywords.specs.FormLaws.{has_form_of}
-use Rattle.helix_keywords.specs.Forms.{has_form, key_sets}
 use Rattle.helix_keywords.specs.declared.form.Form.{Form}
 use Rattle.helix_keywords.specs.declared.form.Form.TheVariants as form
 use Rattle.helix_operands.specs.Values.{Reads}
-use Rattle.helix_places.specs.Members.{are_keys, has_key, is_list, items_of, members_of, value_of}
+use Rattle.helix_places.specs.Members.{has_key, is_list, items_of, members_of, value_of}
 use Rattle.helix_places.specs.PlaceLaws.{and_some}
 use Rattle.helix_places.specs.Places.{Here, InMember}
 use Rattle.helix_places.specs.declared.place.Step.{Step}
@@ -30,49 +26,12 @@ use Rattle.helix_references.specs.RefusalLaws.{some_value}
 use Rattle.helix_references.specs.Relations.{GivesRelation}
 use Rattle.helix_validity.proofs.First.{IsSomewhere}
 use Rattle.helix_validity.proofs.Gives.{gives_items, gives_members}
+use Rattle.helix_validity.proofs.Keys.{all_of_keys, any_of_keys, else_keys, first_key, if_keys, not_keys}
 use Rattle.helix_validity.proofs.Leaves.{and_then, atom_given, relation_given, some_there}
 use Rattle.helix_validity.proofs.Parts.{OfParts, by_parts}
 use Rattle.helix_validity.proofs.Sound.{IsSound, its_form, itself, sound_item, sound_part}
 use Rattle.helix_validity.specs.Mentions.{AreFilled}
 use Rattle.helix_validity.specs.Unbroken.{IsUnbrokenProfile}
-
--- the keys of a form with one set of them
-all_keys : (keys : List (List ℕ)) (members : List Member) → (are_keys keys members || false) ≡ true
-    → list_all (λ key. has_key key members) keys ≡ true
-all_keys keys members any = elim (or_cases (are_keys keys members) false any) [
-  | inl are ↦ (and_parts (length members == length keys) (list_all (λ key. has_key key members) keys) are).1
-  | inr none ↦ absurd (let both : false ≡ true = none in cc)
-]
-
-first_key : (key : List ℕ) (keys : List (List ℕ)) (members : List Member)
-    → list_all (λ k. has_key k members) (key ∷ keys) ≡ true
-    → (has_key key members ≡ true) × (list_all (λ k. has_key k members) keys ≡ true)
-first_key key keys members all = and_parts (has_key key members) (list_all (λ k. has_key k members) keys) all
-
-not_keys : (members : List Member) → has_form form.Not members ≡ true
-    → list_all (λ k. has_key k members) (codes "not" ∷ []) ≡ true
-unfolding has_form key_sets
-not_keys members has = all_keys (codes "not" ∷ []) members has
-
-all_of_keys : (members : List Member) → has_form form.AllOf members ≡ true
-    → list_all (λ k. has_key k members) (codes "allOf" ∷ []) ≡ true
-unfolding has_form key_sets
-all_of_keys members has = all_keys (codes "allOf" ∷ []) members has
-
-any_of_keys : (members : List Member) → has_form form.AnyOf members ≡ true
-    → list_all (λ k. has_key k members) (codes "anyOf" ∷ []) ≡ true
-unfolding has_form key_sets
-any_of_keys members has = all_keys (codes "anyOf" ∷ []) members has
-
-if_keys : (members : List Member) → has_form form.If members ≡ true
-    → list_all (λ k. has_key k members) (codes "if" ∷ codes "then" ∷ []) ≡ true
-unfolding has_form key_sets
-if_keys members has = all_keys (codes "if" ∷ codes "then" ∷ []) members has
-
-else_keys : (members : List Member) → has_form form.IfElse members ≡ true
-    → list_all (λ k. has_key k members) (codes "if" ∷ codes "then" ∷ codes "else" ∷ []) ≡ true
-unfolding has_form key_sets
-else_keys members has = all_keys (codes "if" ∷ codes "then" ∷ codes "else" ∷ []) members has
 
 module _ (fields : List Field) (sets : List SetMembers) where
   -- items one after the other

@@ -6,11 +6,13 @@ pub mod Walking
 pub mod Built
 pub mod Own
 pub mod Fitting
+pub mod Lines
 pub mod Joined
 pub mod First
 pub mod Closing
 pub mod Forests
 pub mod Leaves
+pub mod Keys
 pub mod Given
 pub mod Whole
 pub mod Breaching
