@@ -1,0 +1,3 @@
+-- What the public clauses rest on.
+pub mod Unbroken
+pub mod Mentions
