@@ -1,2 +1,4 @@
 -- what public clauses rest on
 pub mod Mentions
+pub mod Refusals
+pub mod Drafts
