@@ -14,9 +14,9 @@ ghost use Rattle.helix_profile.specs.declared.constraint.Constraint.{Constraint}
 ghost use Rattle.helix_profile.specs.declared.field.Field.{Field};
 ghost use Rattle.helix_readings.specs.Whole.{GivesConstraints};
 ghost use Rattle.helix_readings.specs.declared.sets.SetMembers.{SetMembers};
-ghost use Rattle.helix_validity.specs.Mentions.{AreFilled};
 ghost use Rattle.helix_rules.specs.Breaches.{FindsBreach};
 ghost use Rattle.helix_rules.specs.declared.rule.Rule.TheVariants as rule;
+ghost use Rattle.helix_validity.specs.Mentions.{AreFilled};
 ghost use Rattle.helix_validity.specs.Unbroken.{IsUnbrokenProfile, profile_rules};
 
 /// A profile in which none of the rules S1 to S21 finds a breach breaks no rule.
