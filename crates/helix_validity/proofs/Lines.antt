@@ -1,5 +1,5 @@
 -- The lines of the text, by the members of an object, and what lists of relations join.
-use Rattle.std.proofs.Common.{◌≡◌, ◌⊎◌, inl, inr, ℕ, Bool, true, false, if◌then◌else◌, List, [], ◌∷◌, ◌++◌, Option, Some, None, sym, ◌∙◌, ap, subst, ⊎_elim}
+use Rattle.std.proofs.Common.{◌≡◌, ◌⊎◌, inl, inr, ℕ, List, [], ◌∷◌, ◌++◌, Option, Some, None, sym, ◌∙◌, ap, subst, ⊎_elim}
 use Rattle.std.specs.Str.{bytes_eq}
 use Rattle.helix_constraints.specs.Rules.{form_in}
 use Rattle.helix_json.specs.declared.value.Json.{Json, Row_of-Json, Row_of-Member}
@@ -11,6 +11,7 @@ use Rattle.helix_profile.specs.declared.field.Field.{Field}
 use Rattle.helix_profile.specs.declared.relation.Relation.{Relation}
 use Rattle.helix_rules.specs.Lines.{branch_lines, chosen_lines, inside_of, lines_in, list_lines, operand_lines, own_lines, related_of}
 use Rattle.helix_validity.proofs.Gives.{no_form}
+use Rattle.helix_validity.proofs.Parts.{by_key}
 
 -- what two lists join
 joined_left : (a b : List Relation) (f g : ℕ) → AreJoined a f g → AreJoined (a ++ b) f g
@@ -41,12 +42,6 @@ pub each_joins : (a b c d : List Relation) → JoinNoMore a c → JoinNoMore b d
 each_joins a b c d first second f g joined =
     ⊎_elim (λ left. joined_left c d f g (first f g left)) (λ right. joined_right c d f g (second f g right))
     (joined_either a b f g joined)
-
--- the value under a key is that of the first member, or of a later one
-by_key : (b : Bool) (v : Json) (rest : Option Json) (w : Json) (A : Type 0) → (v ≡ w → A) → (rest ≡ Some w → A)
-    → (if b then Some v else rest) ≡ Some w → A
-by_key true v rest w A here later is = here (let same : v ≡ w = cc in same)
-by_key false v rest w A here later is = later is
 
 module _ (fields : List Field) where
   -- the lines of the values of an object's members

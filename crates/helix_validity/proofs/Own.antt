@@ -1,5 +1,5 @@
 -- What a sound atomic constraint, and a sound relation, has itself.
-use Rattle.std.proofs.Common.{◌≡◌, inl, ℕ, true, false, List, [], ◌∷◌, Option, Some, None, IfSome, IsSome, slice_get, codes, refl, ◌∙◌, ap, subst}
+use Rattle.std.proofs.Common.{◌≡◌, inl, ℕ, true, List, [], ◌∷◌, Option, Some, IfSome, slice_get, codes, refl, ◌∙◌, ap, subst}
 use Rattle.std.specs.Option.{IsSomeAnd}
 use Rattle.helix_constraints.specs.Rules.{form_in}
 use Rattle.helix_constraints.specs.declared.role.Role.TheVariants as role
@@ -38,10 +38,6 @@ use Rattle.helix_validity.specs.Mentions.{AreSetMembers}
 pub some_if : {A : Type 0} (o : Option A) (P : A → Type 0) (x : A) → o ≡ Some x → IfSome o P → P x
 some_if o P x is holds = let Q : Option _ → Type 0 = λ q. IfSome q P in subst Q is holds
 
-pub some_is : {A : Type 0} (o : Option A) → IsSome o → (x : A) × (o ≡ Some x)
-some_is None some = absurd (let both : false ≡ true = some in cc)
-some_is (Some x) some = (x, refl)
-
 -- what breaks a rule in an object of the same members
 same_break : (fields : List Field) (v : Json) (broken : ReferenceRule) (place : List Step)
     → Breaks broken fields (view.Object (members_of v)) place → Breaks broken fields v place
@@ -69,7 +65,7 @@ module _ (fields : List Field) (sets : List SetMembers) (prefix : List Step) (v 
 
       -- its field
       pub index : (i : ℕ) × (index_by fields (value_of (codes "field") (members_of v)) ≡ Some i)
-      index = some_is (index_by fields (value_of (codes "field") (members_of v)))
+      index = some_value (index_by fields (value_of (codes "field") (members_of v)))
           (has_field fields (members_of v) keyword has unbroken_object)
 
       module _ (i : ℕ) (names : index_by fields (value_of (codes "field") (members_of v)) ≡ Some i) where

@@ -12,12 +12,13 @@ use Rattle.helix_places.specs.declared.place.Step.TheVariants as step
 abbrev pub OfParts : (Json → Type 0) → Json → Type 0
 OfParts P v = (s : Step) (w : Json) → part v s ≡ Some w → P w
 
-module _ (P : Json → Type 0) where
-  chosen : (b : Bool) (v : Json) (rest : Option Json) (w : Json) → P v → (rest ≡ Some w → P w)
-      → (if b then Some v else rest) ≡ Some w → P w
-  chosen true v rest w here later is = let same : v ≡ w = cc in subst P same here
-  chosen false v rest w here later is = later is
+-- the value under a key is that of the first member, or of a later one
+pub by_key : (b : Bool) (v : Json) (rest : Option Json) (w : Json) (A : Type 0) → (v ≡ w → A) → (rest ≡ Some w → A)
+    → (if b then Some v else rest) ≡ Some w → A
+by_key true v rest w A here later is = here (let same : v ≡ w = cc in same)
+by_key false v rest w A here later is = later is
 
+module _ (P : Json → Type 0) where
   no_parts : (v : Json) → items_of v ≡ [] → members_of v ≡ [] → OfParts P v
   no_parts v items members (step.Member key) w is =
       let none : None ≡ Some w = sym (ap (value_of key) members) ∙ is in absurd (cc)
@@ -58,5 +59,6 @@ module _ (P : Json → Type 0) where
       in_members : {n : _} (members : Row_of-Member n) (key : List ℕ) (w : Json)
           → value_of key (listed_members members) ≡ Some w → P w
       in_members json.end_of-Member key w is = absurd (let none : None ≡ Some w = is in cc)
-      in_members (json.more_of-Member other v members) key w is = chosen (bytes_eq other key) v
-          (value_of key (listed_members members)) w (by_parts v) (λ later. in_members members key w later) is
+      in_members (json.more_of-Member other v members) key w is = by_key (bytes_eq other key) v
+          (value_of key (listed_members members)) w (P w) (λ same. subst P same (by_parts v))
+          (λ later. in_members members key w later) is

@@ -14,9 +14,9 @@ ghost use Rattle.helix_profile.specs.declared.constraint.Constraint.{Constraint}
 ghost use Rattle.helix_profile.specs.declared.field.Field.{Field};
 ghost use Rattle.helix_readings.specs.Whole.{GivesConstraints};
 ghost use Rattle.helix_readings.specs.declared.sets.SetMembers.{SetMembers};
-ghost use Rattle.helix_validity.specs.Mentions.{AreFilled};
 ghost use Rattle.helix_rules.specs.Breaches.{FindsBreach};
 ghost use Rattle.helix_rules.specs.declared.rule.Rule.TheVariants as rule;
+ghost use Rattle.helix_validity.specs.Mentions.{AreFilled};
 ghost use Rattle.helix_validity.specs.Unbroken.{IsUnbrokenProfile, profile_rules};
 
 /// A profile in which none of the rules S1 to S21 finds a breach breaks no rule.
@@ -25,7 +25,7 @@ pub fn no_breach()
         → FindsBreach fields profile_rules v None → IsUnbrokenProfile fields v }
 {}
 
-/// The fields of a profile that breaks no rule are valid, and it has no more constraints than can be numbered.
+/// The fields of a profile that breaks no rule are valid, and it gives fewer than 2^32 constraints.
 pub fn fields_are_valid()
     ensures valid { (alphabet : Alphabet) (v : Value) → IsUnbrokenProfile (fields_of alphabet v) v
         → AreValidFields (fields_of alphabet v) }
@@ -41,21 +41,22 @@ pub fn constraints_are_given()
         → IsSome found }
 {}
 
-/// Each constraint that is given is one for the fields.
+/// Each constraint that a profile gives is one for its fields, where the profile breaks no rule and each set file that it
+/// mentions has its members.
 pub fn constraints_are_valid()
     ensures { (fields : List Field) (sets : List SetMembers) (v : Value) (cs : List Constraint)
         → IsUnbrokenProfile fields v → AreFilled fields sets v → GivesConstraints fields sets v cs
         → AllByRecursion (IsConstraintFor fields) cs }
 {}
 
-/// The relations of the constraints that are given form no cycle.
+/// The relations of the constraints that such a profile gives form no cycle, if it has at most 64 fields.
 pub fn relations_are_a_forest()
     ensures { (fields : List Field) (sets : List SetMembers) (v : Value) (cs : List Constraint)
         → length fields ≤ 64 → HasNoRepeatedKey v → IsUnbrokenProfile fields v → AreFilled fields sets v
         → GivesConstraints fields sets v cs → IsForest (all_relations cs) }
 {}
 
-/// The fields of a profile that breaks no rule and the constraints that it gives are a valid profile.
+/// The fields of such a profile and the constraints that it gives are what `Profile::new` asks for.
 pub fn profile_is_valid()
     ensures { (alphabet : Alphabet) (sets : List SetMembers) (v : Value) (cs : List Constraint)
         → HasNoRepeatedKey v → IsUnbrokenProfile (fields_of alphabet v) v → AreFilled (fields_of alphabet v) sets v

@@ -13,7 +13,8 @@
 //! The crate has laws alone, for whoever reads a profile: of a JSON value in which no object repeats a key, and which
 //! breaks none of the rules S1 to S21, the fields are valid, all constraints are given, and both together are what a
 //! [`Profile`](helix_profile::Profile) asks for. Set files are read by others: the laws ask that each one that is
-//! mentioned has members, at least one, all of them values of its field.
+//! mentioned has members, at least one, all of them values of its field. At most one list of constraints is given, by
+//! `one_list` of helix_readings, so the profile is the only one.
 //!
 //! `specs/Unbroken.antt` says what it is to break no rule, `specs/Mentions.antt` where set files are mentioned.
 #![tactic(auto)]
