@@ -64,55 +64,55 @@ same_place (first ∷ a) (next ∷ b) = ⊎_elim
 module _ (fields : List Field) (v : Json) (keys : HasNoRepeatedKey v) (kind : Kind) (place : List Step)
     (is : Mentions fields kind v place)
   where
-  next_members : (own : List Step) (members : List Cell) (sets : List SetMembers) → own ≢ place
-      → AreSetMembers sets kind place
-      → AreSetMembers (record { place = own; members = members } ∷ sets) kind place
-  next_members own members sets different are = record {
-    members = are.members;
-    has = inr (different, are.has);
-    some = are.some;
-    within = are.within;
-  }
+    next_members : (own : List Step) (members : List Cell) (sets : List SetMembers) → own ≢ place
+        → AreSetMembers sets kind place
+        → AreSetMembers (record { place = own; members = members } ∷ sets) kind place
+    next_members own members sets different are = record {
+      members = are.members;
+      has = inr (different, are.has);
+      some = are.some;
+      within = are.within;
+    }
 
-  these_members : (own : Mention) (members : List Cell) (sets : List SetMembers) → own.place ≡ place
-      → Mentions fields own.kind v own.place → AreMembersOf own.kind members
-      → AreSetMembers (record { place = own.place; members = members } ∷ sets) kind place
-  these_members own members sets same named are =
-      let kinds : own.kind ≡ kind =
-      kind_at fields own.kind kind v place (subst (Mentions fields own.kind v) same named) is in
-      let good = subst (λ k. AreMembersOf k members) kinds are in record {
-        members = members;
-        has = inl (same, refl);
-        some = good.some;
-        within = good.within;
-      }
+    these_members : (own : Mention) (members : List Cell) (sets : List SetMembers) → own.place ≡ place
+        → Mentions fields own.kind v own.place → AreMembersOf own.kind members
+        → AreSetMembers (record { place = own.place; members = members } ∷ sets) kind place
+    these_members own members sets same named are =
+        let kinds : own.kind ≡ kind =
+        kind_at fields own.kind kind v place (subst (Mentions fields own.kind v) same named) is in
+        let good = subst (λ k. AreMembersOf k members) kinds are in record {
+          members = members;
+          has = inl (same, refl);
+          some = good.some;
+          within = good.within;
+        }
 
-  by_members : (number : ℕ) (mention : Mention) (members : Option (List Cell)) (wishes : List Wish) (m : Mention)
-      → wanted_from number (record { mention = mention; members = members } ∷ wishes) ≡ None
-      → IsGoodWish (record { mention = mention; members = members }) → Mentions fields mention.kind v mention.place
-      → IsOne (mention ∷ map (λ wish. wish.mention) wishes) m → m.place ≡ place
-      → (wanted_from (number + 1) wishes ≡ None → IsOne (map (λ wish. wish.mention) wishes) m
-      → AreSetMembers (sets_of wishes) kind place)
-      → AreSetMembers (sets_of (record { mention = mention; members = members } ∷ wishes)) kind place
-  by_members number mention None wishes m wanted good named at same later = absurd (cc)
-  by_members number mention (Some members) wishes m wanted good named at same later = ⊎_elim
-      (λ here. these_members mention members (sets_of wishes) here named good)
-      (λ different. next_members mention.place members (sets_of wishes) different
-      (later wanted (not_first at different))) (same_place mention.place place)
-    where
-      not_first : IsOne (mention ∷ map (λ wish. wish.mention) wishes) m → mention.place ≢ place
-          → IsOne (map (λ wish. wish.mention) wishes) m
-      not_first (inl first) different = absurd (different (ap (λ x. x.place) first ∙ same))
-      not_first (inr rest) different = rest
+    by_members : (number : ℕ) (mention : Mention) (members : Option (List Cell)) (wishes : List Wish) (m : Mention)
+        → wanted_from number (record { mention = mention; members = members } ∷ wishes) ≡ None
+        → IsGoodWish (record { mention = mention; members = members }) → Mentions fields mention.kind v mention.place
+        → IsOne (mention ∷ map (λ wish. wish.mention) wishes) m → m.place ≡ place
+        → (wanted_from (number + 1) wishes ≡ None → IsOne (map (λ wish. wish.mention) wishes) m
+        → AreSetMembers (sets_of wishes) kind place)
+        → AreSetMembers (sets_of (record { mention = mention; members = members } ∷ wishes)) kind place
+    by_members number mention None wishes m wanted good named at same later = absurd (cc)
+    by_members number mention (Some members) wishes m wanted good named at same later = ⊎_elim
+        (λ here. these_members mention members (sets_of wishes) here named good)
+        (λ different. next_members mention.place members (sets_of wishes) different
+        (later wanted (not_first at different))) (same_place mention.place place)
+      where
+        not_first : IsOne (mention ∷ map (λ wish. wish.mention) wishes) m → mention.place ≢ place
+            → IsOne (map (λ wish. wish.mention) wishes) m
+        not_first (inl first) different = absurd (different (ap (λ x. x.place) first ∙ same))
+        not_first (inr rest) different = rest
 
-  members_for : (number : ℕ) (wishes : List Wish) (m : Mention) → wanted_from number wishes ≡ None
-      → AllByRecursion IsGoodWish wishes
-      → ((own : Mention) → IsOne (map (λ wish. wish.mention) wishes) own → Mentions fields own.kind v own.place)
-      → IsOne (map (λ wish. wish.mention) wishes) m → m.place ≡ place → AreSetMembers (sets_of wishes) kind place
-  members_for number [] m wanted good named at same = absurd at
-  members_for number (wish ∷ wishes) m wanted good named at same =
-      by_members number wish.mention wish.members wishes m wanted good.0 (named wish.mention (inl refl)) at same
-      (λ rest later. members_for (number + 1) wishes m rest good.1 (λ own is. named own (inr is)) later same)
+    members_for : (number : ℕ) (wishes : List Wish) (m : Mention) → wanted_from number wishes ≡ None
+        → AllByRecursion IsGoodWish wishes
+        → ((own : Mention) → IsOne (map (λ wish. wish.mention) wishes) own → Mentions fields own.kind v own.place)
+        → IsOne (map (λ wish. wish.mention) wishes) m → m.place ≡ place → AreSetMembers (sets_of wishes) kind place
+    members_for number [] m wanted good named at same = absurd at
+    members_for number (wish ∷ wishes) m wanted good named at same =
+        by_members number wish.mention wish.members wishes m wanted good.0 (named wish.mention (inl refl)) at same
+        (λ rest later. members_for (number + 1) wishes m rest good.1 (λ own is. named own (inr is)) later same)
 
 pub all_filled : (fields : List Field) (v : Json) (wishes : List Wish) → HasNoRepeatedKey v
     → map (λ wish. wish.mention) wishes ≡ mentions_of fields v → AllByRecursion IsGoodWish wishes

@@ -1,2 +1,5 @@
+mod Accepting
+mod Breaching
 mod Naming
 mod Filling
+mod Wishes

@@ -92,6 +92,7 @@ module _ (fields : List Field) where
       (at.0, at.1, at.2.1, ap (λ k. step.Member k ∷ place) h.0 ∙ ap (λ p. step.Member key ∷ p) at.2.0)
 
   pub naming : (kind : Kind) (v : Json) (place : List Step) → NamesSetFile fields kind v place → IsNaming kind v place
+  unfolding word_of
   naming kind v place h =
       let atom = some_of (atom_in fields v) (λ atom. (atom.kind ≡ kind)
       × InMember (word_of atom.keyword) (Here (λ w. names_set_file atom.keyword w ≡ true)) v place) h in
@@ -109,14 +110,20 @@ module _ (fields : List Field) where
 
   -- and back
   pub named : (kind : Kind) (v : Json) (place : List Step) → IsNaming kind v place → NamesSetFile fields kind v place
+  unfolding word_of
   named kind v place is = and_some (atom_in fields v) (λ atom. (atom.kind ≡ kind)
       × InMember (word_of atom.keyword) (Here (λ w. names_set_file atom.keyword w ≡ true)) v place)
       (record { kind = kind; keyword = keyword.InSet })
       (ap (λ f. atom_of f (kind_by fields (value_of (codes "field") (members_of v)))) is.form_is
-      ∙ ap (λ k. atom_of (Some (form.Atom keyword.InSet)) k) is.kind_is)
-      (refl, let P : List Step → Type 0 = λ p. InMember (codes "inSet") (Here (λ w. names_set_file keyword.InSet w ≡ true)) v p in
-      subst P (sym is.is) (refl, and_some (value_of (codes "inSet") (members_of v))
-      (λ w. Here (λ u. names_set_file keyword.InSet u ≡ true) w []) (json.Str is.name) is.operand (refl, refl)))
+      ∙ ap (λ k. atom_of (Some (form.Atom keyword.InSet)) k) is.kind_is) (
+        refl,
+        let P : List Step → Type 0 = λ p. InMember (codes "inSet") (Here (λ w. names_set_file keyword.InSet w ≡ true)) v p in
+            subst P (sym is.is) (
+              refl,
+              and_some (value_of (codes "inSet") (members_of v))
+                  (λ w. Here (λ u. names_set_file keyword.InSet u ≡ true) w []) (json.Str is.name) is.operand (refl, refl),
+            ),
+      )
 
   -- the mention of such a constraint
   pub own_mention : (kind : Kind) (v : Json) (at place : List Step) (is : IsNaming kind v place)

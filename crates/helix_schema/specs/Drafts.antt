@@ -1,5 +1,5 @@
 -- A profile whose set files aren't all read yet.
-use Rattle.std.specs.Prelude.{◌≡◌, ◌≢◌, ℕ, ◌+◌, List, [], ◌∷◌, Option, None, Some, IfSome, flat_map, map}
+use Rattle.std.specs.Prelude.{◌≡◌, ◌≢◌, ℕ, ◌+◌, List, [], ◌∷◌, Option, None, Some, IfSome, IsSome, flat_map, map}
 use Rattle.std.specs.List.{AllByRecursion}
 use Rattle.helix_base.specs.declared.alphabet.Alphabet.{Alphabet}
 use Rattle.helix_fields.specs.Fields.{fields_of}
@@ -11,7 +11,10 @@ use Rattle.helix_validity.specs.Unbroken.{IsUnbrokenProfile}
 use Rattle.helix_values.specs.Universe.{InUniverse}
 use Rattle.helix_values.specs.declared.cell.Cell.{Cell}
 use Rattle.helix_values.specs.declared.kind.Kind.{Kind}
+use Rattle.helix_profile.specs.Content.{Content}
+use Rattle.helix_readings.specs.Whole.{GivesConstraints}
 use Rattle.helix_schema.specs.Mentions.{mentions_of}
+use Rattle.helix_schema.specs.declared.wanted.Wanted.{Wanted}
 use Rattle.helix_schema.specs.declared.mention.Mention.{Mention}
 use Rattle.helix_schema.specs.declared.wish.Wish.{Wish}
 
@@ -35,6 +38,10 @@ wanted_from number (wish ∷ wishes) =
 
 abbrev pub first_wanted : List Wish → Option (ℕ × Mention)
 first_wanted wishes = wanted_from 1 wishes
+
+-- the members of the file are read
+abbrev pub IsFilled : Wish → Type 0
+IsFilled wish = IsSome wish.members
 
 abbrev pub with_members : Wish → List Cell → Wish
 with_members wish members = record wish { members = Some members }
@@ -75,3 +82,18 @@ set_or (Some members) place = record { place = place; members = members } ∷ []
 
 abbrev pub sets_of : List Wish → List SetMembers
 sets_of wishes = flat_map (λ wish. set_or wish.members wish.mention.place) wishes
+
+-- a set file that is wanted, as its number and mention
+abbrev pub told : Wanted → ℕ × Mention
+told wanted = (wanted.number, record { name = wanted.name.now; kind = wanted.kind; place = wanted.place.now })
+
+-- the members are some for the wish with this mention
+abbrev pub IsMembersFor : List Cell → ℕ × Mention → Type 0
+IsMembersFor members wanted = AreMembersOf wanted.1.kind members
+
+-- the profile of a draft: its fields, and the constraints that its value gives with the members of the set files
+pub record IsProfileOf (draft : Drafted) (profile : Content) : Type 0 where
+  pub fields : profile.fields ≡ fields_of draft.alphabet draft.value
+  pub constraints : GivesConstraints (fields_of draft.alphabet draft.value) (sets_of draft.wishes) draft.value
+      profile.constraints
+  pub read : first_wanted draft.wishes ≡ None
