@@ -1,5 +1,5 @@
 -- A candidate that is raised until it stands.
-use Rattle.std.proofs.Common.{◌↔◌, Bool, true, false}
+use Rattle.std.proofs.Common.{◌≡◌, ◌↔◌, ℕ, suc, ◌<◌, Bool, true, false, sym, subst, arith, if◌then◌else◌}
 use Rattle.helix_values.specs.declared.cell.Cell.{Cell}
 use Rattle.helix_values.specs.declared.mark.Mark.{Mark}
 use Rattle.helix_values.specs.Class.{Class}
@@ -12,7 +12,7 @@ use Rattle.helix_search.specs.Levels.{IsFound}
 use Rattle.helix_search.specs.Inner.Asked.{IsReached, IsSearching}
 use Rattle.helix_search.specs.Inner.Kept.{IsMarkKept, Raises}
 use Rattle.helix_search.proofs.KeptMarks.{admits_kept, kept_admits, admits_up, above_refused}
-use Rattle.helix_search.proofs.Orders.{never_both}
+use Rattle.helix_search.proofs.Orders.{never_both, left, left_falls}
 
 -- what is found of a set is found of one with the same cells
 pub found_same : (P Q : Cell → Type 0) (m : Mark) (found : Bool) (v : Cell) → ((w : Cell) → P w ↔ Q w)
@@ -53,6 +53,20 @@ module _ (class : Class) (Has S : Cell → Type 0) (within : (v : Cell) → Has 
       pub goes_up : (q : Cell) → IsAdmitted asked q → CellLess p q
       goes_up q admitted = above_refused asked p q
           (λ old. raises.passes (kept_admits asked how bound p kept old)) admitted
+
+      pub falls : (found before : Bool) → before ≡ true → (old q : Cell) → IsLeastAnswer Has asked found old q
+          → (if found then suc (left class q) else 0) < (if before then suc (left class p) else 0)
+      falls found before is old q answer =
+          subst (λ b. (if found then suc (left class q) else 0) < (if b then suc (left class p) else 0)) (sym is)
+          (by found answer)
+        where
+          by : (f : Bool) → IsLeastAnswer Has asked f old q
+              → (if f then suc (left class q) else 0) < suc (left class p)
+          by true least = omega (
+            arith,
+            left_falls class p q (within p at.has) (within q least.has) (goes_up q least.admitted),
+          )
+          by false none = omega arith
 
       pub goes_on : (found : Bool) (old q : Cell) → IsLeastAnswer Has asked found old q
           → IsSearching Has Both m found q

@@ -130,19 +130,17 @@ module _ {V K : Type 0} (class : V → Class) (link_class : K → Class) (Has : 
         (sym (is ∙ ap (λ (xs : List (Neighbour K)). get_or xs i n) items_are))
         (all i n (subst (λ (xs : List (Neighbour K)). i < length xs) items_are within))) found bound not said
 
-  -- what is found at the first level
-  pub found_at : (nodes : AreNodes class link_class (Stands Lower Upper Allowed) tree.nodes.now)
-      (visited : IsVisit tree visit) (m : Mark) (found : Bool) (depth : ℕ) (level : Level) (rest levels : List Level)
-      (levels_are : levels ≡ level ∷ rest) (room : ℕ) (room_is : room ≡ suc depth)
-      → IsFound (λ v. Has visit.here.now.values v × StandsAll Has (Stands Lower Upper Allowed) tree depth visit v)
-        m found level.candidate
-      → IsFound (ExtendsIn Has (Stands Lower Upper Allowed) tree room visit.from visit.node) m found
-        (first_candidate levels)
-  found_at nodes visited m found depth level rest levels levels_are room room_is said =
-      subst (λ ls. IsFound (ExtendsIn Has (Stands Lower Upper Allowed) tree room visit.from visit.node) m found
-      (first_candidate ls)) (sym levels_are)
-      (subst (λ r. IsFound (ExtendsIn Has (Stands Lower Upper Allowed) tree r visit.from visit.node) m found
-      level.candidate) (sym room_is)
-      (found_same _ _ m found level.candidate
-      (λ v. stands_extends Has (Stands Lower Upper Allowed) tree visit depth visited
-      (nodes.once visit.node visit.here.now visited) v) said))
+  -- what is found for the first level
+  pub found_at : AreNodes class link_class (Stands Lower Upper Allowed) tree.nodes.now → IsVisit tree visit
+      → (m : Mark) (found : Bool) (depth room : ℕ) (v : Cell) → room ≡ suc depth
+      → IsFound (λ w. Has visit.here.now.values w × StandsAll Has (Stands Lower Upper Allowed) tree depth visit w)
+        m found v
+      → IsFound (ExtendsIn Has (Stands Lower Upper Allowed) tree room visit.from visit.node) m found v
+  found_at nodes visited m found depth room v room_is said =
+      subst (λ r. IsFound (ExtendsIn Has (Stands Lower Upper Allowed) tree r visit.from visit.node) m found v)
+      (sym room_is)
+      (found_same
+      (λ w. Has visit.here.now.values w × StandsAll Has (Stands Lower Upper Allowed) tree depth visit w)
+      (ExtendsIn Has (Stands Lower Upper Allowed) tree (suc depth) visit.from visit.node) m found v
+      (λ w. stands_extends Has (Stands Lower Upper Allowed) tree visit depth visited
+      (nodes.once visit.node visit.here.now visited) w) said)
