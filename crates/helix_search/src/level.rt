@@ -1,6 +1,7 @@
 //! Room for the nodes on the way.
 
 ghost use Rattle.std.specs.Prelude.{◌≡◌, ◌<◌, length};
+ghost use Rattle.helix_values.specs.declared.cell.Cell.TheVariants as cells;
 ghost use Rattle.helix_search.specs.Levels.{first_candidate};
 ghost use Rattle.helix_values.specs.View.{cell_of};
 
@@ -15,7 +16,9 @@ pub struct Level {
 
 impl Level {
     /// Room that holds null.
-    pub fn new() -> Level {
+    pub fn new() -> Level
+        ensures { result ≡ record { candidate = cells.Null; bound = cells.Null } }
+    {
         Level {
             candidate: Slot::new(),
             bound: Slot::new(),

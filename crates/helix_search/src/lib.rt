@@ -16,3 +16,6 @@ pub use link::{Exclusion, Link};
 pub use node::{Neighbour, Neighbours, Node};
 pub use search::least;
 pub use tree::Tree;
+
+#[cfg(test)]
+mod tests;

@@ -1,6 +1,6 @@
 //! The search for a node's least value that extends over the nodes that are seen from it.
 
-ghost use Rattle.std.specs.Prelude.{◌≡◌, ◌↔◌, None, Some, length, slice_get, IsTrue};
+ghost use Rattle.std.specs.Prelude.{◌↔◌, None, Some, length, slice_get, IsTrue};
 ghost use Rattle.helix_search.specs.Bounds.{IsValue};
 ghost use Rattle.helix_search.specs.Counting.{CountsGrow};
 ghost use Rattle.helix_search.specs.Levels.{IsFound, first_candidate};
@@ -17,7 +17,7 @@ use crate::kept::{Side, Verdict, keep, kept};
 use crate::level::{Level, first_candidate};
 use crate::link::{Exclusion, Link};
 use crate::node::Neighbour;
-use crate::tree::{Tree, Visit, fixed_cell};
+use crate::tree::{Tree, Visit, fixed_cell, is_seen_from};
 use helix_base::{Ledger, Steps};
 use helix_values::{Mark, Slot};
 
@@ -127,13 +127,6 @@ fn check<V: Choices, K: Link, L: Ledger>(
         }
     }
     Verdict::Stands
-}
-
-/// Whether a node is the one through which another is seen.
-fn is_seen_from(from: Option<usize>, node: usize) -> bool
-    ensures { IsTrue result ↔ (from ≡ Some node) }
-{
-    from == Some(node)
 }
 
 /// What one neighbour says of it. The one through which the node is seen says nothing.

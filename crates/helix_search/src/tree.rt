@@ -1,6 +1,6 @@
 //! The nodes of related fields.
 
-ghost use Rattle.std.specs.Prelude.{◌≡◌};
+ghost use Rattle.std.specs.Prelude.{◌≡◌, ◌↔◌, Some, IsTrue};
 ghost use Rattle.helix_search.specs.Trees.{HasFixedCell, fixed_cell};
 ghost use Rattle.helix_values.specs.View.{cell_of};
 
@@ -34,4 +34,11 @@ pub fn fixed_cell<'a, V, K>(tree: &Tree<'a, V, K>, node: usize) -> CellRef<'a>
         Some(found) => tree.row.slot(found.place).view(),
         None => unreachable!(),
     }
+}
+
+/// Whether a node is the one through which another is seen.
+pub fn is_seen_from(from: Option<usize>, node: usize) -> bool
+    ensures { IsTrue result ↔ (from ≡ Some node) }
+{
+    from == Some(node)
 }

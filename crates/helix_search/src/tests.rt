@@ -1,0 +1,211 @@
+//! Searches among small numbers.
+
+ghost use Rattle.std.specs.Prelude.{◌<◌, IsTrue, All, length};
+ghost use Rattle.helix_search.specs.Inner.Small.{AllWithinNew, AreReverse, IsNew, IsSmallNeighbour, IsSmallNode};
+
+mod small;
+
+use crate::{Level, Neighbour, Neighbours, Node, Tree, least};
+use helix_base::{Memory, Quiet, Steps};
+use helix_values::{CellRef, Kind, Mark, RowBuf, in_universe};
+use small::{Gap, Span};
+use std::alloc::Global;
+use std::test::Fail;
+
+/// The gap that says the same with parent and child exchanged.
+fn reverse(gap: Gap) -> Gap {
+    match gap {
+        Gap::Above(by) => Gap::Below(by),
+        Gap::Below(by) => Gap::Above(by),
+        Gap::Other => Gap::Other,
+    }
+}
+
+/// Whether two gaps say the same both ways.
+fn is_reverse(down: Gap, up: Gap) -> bool
+    ensures { IsTrue result → AreReverse down up }
+{
+    match (down, up) {
+        (Gap::Above(a), Gap::Below(b)) | (Gap::Below(a), Gap::Above(b)) => a == b,
+        (Gap::Other, Gap::Other) => true,
+        _ => false,
+    }
+}
+
+/// Whether a neighbour is a node, as it is seen from both sides, and has a number if it is fixed.
+fn is_neighbour(tree: &Tree<'_, Span, Gap>, neighbour: &Neighbour<Gap>) -> bool
+    ensures { IsTrue result → IsSmallNeighbour tree.now neighbour.now }
+{
+    let Some(other) = tree.nodes.get(neighbour.node) else {
+        return false;
+    };
+    if !is_reverse(neighbour.down, neighbour.up) {
+        return false;
+    }
+    if neighbour.node >= tree.fixed {
+        return true;
+    }
+    other.place < tree.row.len() && in_universe(Kind::Decimal, tree.row.slot(other.place).view())
+}
+
+/// Whether a neighbour isn't among those before it.
+fn is_new(neighbours: &[Neighbour<Gap>], i: usize) -> bool
+    requires { i < length neighbours.now }
+    ensures { IsTrue result → IsNew neighbours.now i }
+{
+    for j in 0..i {
+        if neighbours[j].node == neighbours[i].node {
+            return false;
+        }
+    }
+    true
+}
+
+/// Whether each neighbour is there once.
+fn are_once(neighbours: &[Neighbour<Gap>]) -> bool
+    ensures { IsTrue result → AllWithinNew neighbours.now (length neighbours.now) }
+{
+    for i in 0..neighbours.len() {
+        if !is_new(neighbours, i) {
+            return false;
+        }
+    }
+    true
+}
+
+/// Whether the neighbours of a node are as they should be.
+fn is_node(tree: &Tree<'_, Span, Gap>, node: &Node<Span, Gap>) -> bool
+    ensures { IsTrue result → IsSmallNode tree.now node.now }
+{
+    for neighbour in node.neighbours.as_slice() {
+        if !is_neighbour(tree, neighbour) {
+            return false;
+        }
+    }
+    are_once(node.neighbours.as_slice())
+}
+
+/// Whether a tree can be searched.
+fn is_tree(tree: &Tree<'_, Span, Gap>) -> bool
+    ensures { IsTrue result → All (IsSmallNode tree.now) tree.now.nodes.now }
+{
+    for node in tree.nodes {
+        if !is_node(tree, node) {
+            return false;
+        }
+    }
+    true
+}
+
+/// The least number of a node from one on, of those that extend; none where the tree can't be searched.
+fn number_from(tree: &Tree<'_, Span, Gap>, node: usize, from: u8, levels: &mut [Level]) -> Option<i128> {
+    if !is_tree(tree) || node >= tree.nodes.len() || levels.is_empty() {
+        return None;
+    }
+    let mark = Mark::At(CellRef::Number(i128::from(from)));
+    if !least(tree, node, mark, levels, &mut Steps::new(Quiet)) {
+        return None;
+    }
+    match levels[0].candidate.view() {
+        CellRef::Number(units) => Some(units),
+        _ => None,
+    }
+}
+
+/// The neighbours of a node, by the pairs that are joined.
+fn neighbours_of(
+    alloc: Global,
+    node: usize,
+    pairs: &[(usize, usize, Gap)],
+) -> Result<Neighbours<Gap>, Memory> {
+    let mut neighbours = Neighbours::new(alloc);
+    for (parent, child, gap) in pairs {
+        if *parent == node {
+            neighbours.push(Neighbour {
+                node: *child,
+                down: *gap,
+                up: reverse(*gap),
+            })?;
+        }
+        if *child == node {
+            neighbours.push(Neighbour {
+                node: *parent,
+                down: reverse(*gap),
+                up: *gap,
+            })?;
+        }
+    }
+    Ok(neighbours)
+}
+
+/// A search among numbers from 1 to 9, with the first ones fixed.
+fn solve(
+    alloc: Global,
+    pairs: &[(usize, usize, Gap)],
+    fixed: &[u8],
+    node: usize,
+    from: u8,
+) -> Result<Option<i128>, Memory> {
+    let mut nodes = Vec::new(alloc);
+    let mut levels = Vec::new(alloc);
+    for place in 0..5 {
+        nodes.push(Node {
+            place,
+            values: Span { low: 1, high: 9 },
+            neighbours: neighbours_of(alloc, place, pairs)?,
+        })?;
+        levels.push(Level::new())?;
+    }
+    let mut row = RowBuf::open(alloc, fixed.len())?;
+    for i in 0..row.len() {
+        row.set(i, CellRef::Number(i128::from(fixed[i])));
+    }
+    let tree = Tree {
+        nodes: nodes.as_slice(),
+        row: &row,
+        fixed: fixed.len(),
+    };
+    Ok(number_from(&tree, node, from, levels.as_mut_slice()))
+}
+
+#[test]
+fn finds_the_least_numbers(rt: HostRuntime) -> Result<(), Fail> {
+    // Each next number is more than 1 above the one before.
+    let chain: &[(usize, usize, Gap)] = &[
+        (0, 1, Gap::Above(1)),
+        (1, 2, Gap::Above(1)),
+        (2, 3, Gap::Above(1)),
+        (3, 4, Gap::Above(1)),
+    ];
+    // 1 and 2 are above 0, and 3 is below it; 4 is below 3 and 2.
+    let star: &[(usize, usize, Gap)] = &[
+        (0, 1, Gap::Above(2)),
+        (0, 2, Gap::Above(0)),
+        (0, 3, Gap::Below(1)),
+        (3, 4, Gap::Below(0)),
+    ];
+    let others: &[(usize, usize, Gap)] = &[(0, 1, Gap::Other), (1, 2, Gap::Above(7))];
+    let cases: [(&[(usize, usize, Gap)], &[u8], usize, u8, Option<i128>); 17] = [
+        (chain, &[], 0, 0, Some(1)),
+        (chain, &[], 0, 2, None),
+        (chain, &[], 4, 0, Some(9)),
+        (chain, &[], 2, 0, Some(5)),
+        (chain, &[], 2, 6, None),
+        (chain, &[2], 1, 0, None),
+        (chain, &[1], 1, 0, Some(3)),
+        (star, &[], 0, 0, Some(4)),
+        (star, &[], 0, 5, Some(5)),
+        (star, &[], 0, 7, None),
+        (star, &[], 1, 0, Some(7)),
+        (star, &[], 3, 3, Some(3)),
+        (star, &[], 4, 3, Some(3)),
+        (star, &[], 4, 4, None),
+        (star, &[5], 1, 0, Some(8)),
+        (others, &[], 0, 0, Some(2)),
+        (others, &[1], 1, 0, None),
+    ];
+    for (pairs, fixed, node, from, want) in cases {
+        assert_eq!(rt; solve(rt.alloc(), pairs, fixed, node, from)?, want);
+    }
+    Ok(())
+}

@@ -1,0 +1,123 @@
+//! Fields of small numbers, and gaps between them.
+
+ghost use Rattle.std.specs.Prelude.{◌↔◌, ℤ, pos, ◌≤ℤ◌, IfSome, IfNone};
+ghost use Rattle.helix_search.specs.Inner.Small.{HasNumber, MeetsLower, MeetsUpper, IsAllowed, IsByte};
+ghost use Rattle.helix_values.specs.Class.{numbers};
+ghost use Rattle.helix_values.specs.Counts.{IsMarkOf};
+ghost use Rattle.helix_values.specs.Marks.{IsAdmitted};
+ghost use Rattle.helix_values.specs.declared.cell.Cell.TheVariants as cells;
+
+use crate::{Choices, Exclusion, Link};
+use helix_base::{Ledger, Steps};
+use helix_values::{CellRef, Mark, Slot};
+
+/// The whole numbers from `low` to `high`.
+#[derive(Debug, Drop)]
+pub struct Span {
+    pub low: u8,
+    pub high: u8,
+}
+
+/// What the child's value is, compared with the parent's.
+#[derive(Clone, Copy, Debug, PartialEq, Eq)]
+pub enum Gap {
+    /// More than so much above it.
+    Above(u8),
+    /// More than so much below it.
+    Below(u8),
+    /// Another one.
+    Other,
+}
+
+/// The least of the numbers from 0 to 255 that a mark admits.
+fn least_from(mark: Mark<'_>) -> Option<i128>
+    requires { IsMarkOf numbers mark }
+    ensures some { IfSome result (λ from. (u : ℤ) → IsByte u → IsAdmitted mark.entry (cells.Number u) ↔ (from ≤ℤ u)) }
+    ensures none { IfNone result ((u : ℤ) → IsByte u → ¬ IsAdmitted mark.entry (cells.Number u)) }
+{
+    match mark {
+        Mark::Start => Some(0),
+        Mark::At(CellRef::Number(units)) => Some(units),
+        Mark::After(CellRef::Number(units)) if units < 255 => Some(units + 1),
+        _ => None,
+    }
+}
+
+impl Choices for Span {
+    ghost use Rattle.helix_search.proofs.SmallNumbers.{number_is_value};
+
+    ghost class = { λ s. numbers };
+
+    ghost Has = { λ s v. HasNumber s.low s.high v };
+
+    fn at_or_after<L: Ledger>(
+        &self,
+        mark: Mark<'_>,
+        out: &mut Slot,
+        _steps: &mut Steps<L>,
+    ) -> bool {
+        let Some(from) = least_from(mark) else {
+            return false;
+        };
+        let units = from.max(i128::from(self.low));
+        if units > i128::from(self.high) {
+            return false;
+        }
+        out.set(CellRef::Number(units));
+        true
+    }
+
+    ghost within = { λ s v has. number_is_value s.low s.high v has };
+}
+
+impl Link for Gap {
+    ghost use Rattle.helix_search.proofs.SmallNumbers.{lower_rises, upper_rises, upper_holds_below};
+
+    ghost class = { λ s. numbers };
+
+    ghost Lower = { MeetsLower };
+
+    ghost Upper = { MeetsUpper };
+
+    ghost Allowed = { IsAllowed };
+
+    fn lower<'a>(&self, parent: CellRef<'a>) -> Option<Mark<'a>> {
+        match (*self, parent) {
+            (Gap::Above(by), CellRef::Number(units)) => {
+                Some(Mark::After(CellRef::Number(units + i128::from(by))))
+            }
+            _ => Some(Mark::Start),
+        }
+    }
+
+    fn passes_upper(&self, parent: CellRef<'_>, child: CellRef<'_>) -> bool {
+        match (*self, parent, child) {
+            (Gap::Below(by), CellRef::Number(p), CellRef::Number(v)) => v + i128::from(by) < p,
+            _ => true,
+        }
+    }
+
+    fn inverse<'a>(&self, child: CellRef<'a>) -> Option<Mark<'a>> {
+        match (*self, child) {
+            (Gap::Below(by), CellRef::Number(units)) => {
+                Some(Mark::After(CellRef::Number(units + i128::from(by))))
+            }
+            _ => Some(Mark::Start),
+        }
+    }
+
+    fn excludes<'a>(&self, parent: CellRef<'_>, child: CellRef<'a>) -> Exclusion<'a> {
+        match (*self, parent, child) {
+            (Gap::Other, CellRef::Number(p), CellRef::Number(v)) if p == v => {
+                Exclusion::Until(Mark::After(child))
+            }
+            _ => Exclusion::No,
+        }
+    }
+
+    ghost lower_rises = { λ s p q v of_p of_q of_v from met. lower_rises s p q v of_p of_q of_v from met };
+
+    ghost upper_rises = { λ s p q v of_p of_q of_v from met. upper_rises s p q v of_p of_q of_v from met };
+
+    ghost upper_holds_below = { λ s p v w of_p of_v of_w from met. upper_holds_below s p v w of_p of_v of_w from met };
+}
