@@ -6,4 +6,4 @@ pub mod Settling
 pub mod Partners
 pub mod Asking
 pub mod Visiting
-pub mod SmallNumbers
+pub mod SmallTrees

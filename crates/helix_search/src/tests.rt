@@ -2,6 +2,8 @@
 
 ghost use Rattle.std.specs.Prelude.{◌<◌, IsTrue, All, length};
 ghost use Rattle.helix_search.specs.Inner.Small.{AllWithinNew, AreReverse, IsNew, IsSmallNeighbour, IsSmallNode};
+ghost use Rattle.helix_values.specs.Class.{numbers};
+ghost use Rattle.helix_values.specs.Counts.{IsMarkOf};
 
 mod small;
 
@@ -73,23 +75,30 @@ fn are_once(neighbours: &[Neighbour<Gap>]) -> bool
     true
 }
 
-/// Whether the neighbours of a node are as they should be.
-fn is_node(tree: &Tree<'_, Span, Gap>, node: &Node<Span, Gap>) -> bool
-    ensures { IsTrue result → IsSmallNode tree.now node.now }
+/// Whether all neighbours of a node are as they should be.
+fn are_neighbours(tree: &Tree<'_, Span, Gap>, neighbours: &[Neighbour<Gap>]) -> bool
+    ensures { IsTrue result → All (IsSmallNeighbour tree.now) neighbours.now }
 {
-    for neighbour in node.neighbours.as_slice() {
+    for neighbour in neighbours {
         if !is_neighbour(tree, neighbour) {
             return false;
         }
     }
-    are_once(node.neighbours.as_slice())
+    true
 }
 
-/// Whether a tree can be searched.
-fn is_tree(tree: &Tree<'_, Span, Gap>) -> bool
-    ensures { IsTrue result → All (IsSmallNode tree.now) tree.now.nodes.now }
+/// The same, and whether each is there once.
+fn is_node(tree: &Tree<'_, Span, Gap>, node: &Node<Span, Gap>) -> bool
+    ensures { IsTrue result → IsSmallNode tree.now node.now }
 {
-    for node in tree.nodes {
+    are_neighbours(tree, node.neighbours.as_slice()) && are_once(node.neighbours.as_slice())
+}
+
+/// Whether all nodes are so.
+fn are_nodes(tree: &Tree<'_, Span, Gap>, nodes: &[Node<Span, Gap>]) -> bool
+    ensures { IsTrue result → All (IsSmallNode tree.now) nodes.now }
+{
+    for node in nodes {
         if !is_node(tree, node) {
             return false;
         }
@@ -97,13 +106,23 @@ fn is_tree(tree: &Tree<'_, Span, Gap>) -> bool
     true
 }
 
+/// Whether a number is found, in a tree that can be searched.
+fn finds(tree: &Tree<'_, Span, Gap>, node: usize, mark: Mark<'_>, levels: &mut [Level]) -> bool
+    requires { IsMarkOf numbers mark }
+{
+    if !are_nodes(tree, tree.nodes) {
+        return false;
+    }
+    if node >= tree.nodes.len() {
+        return false;
+    }
+    least(tree, node, mark, levels, &mut Steps::new(Quiet))
+}
+
 /// The least number of a node from one on, of those that extend; none where the tree can't be searched.
 fn number_from(tree: &Tree<'_, Span, Gap>, node: usize, from: u8, levels: &mut [Level]) -> Option<i128> {
-    if !is_tree(tree) || node >= tree.nodes.len() || levels.is_empty() {
-        return None;
-    }
     let mark = Mark::At(CellRef::Number(i128::from(from)));
-    if !least(tree, node, mark, levels, &mut Steps::new(Quiet)) {
+    if levels.is_empty() || !finds(tree, node, mark, levels) {
         return None;
     }
     match levels[0].candidate.view() {
@@ -138,6 +157,15 @@ fn neighbours_of(
     Ok(neighbours)
 }
 
+/// A row of numbers.
+fn row_of(alloc: Global, numbers: &[u8]) -> Result<RowBuf, Memory> {
+    let mut row = RowBuf::open(alloc, numbers.len())?;
+    for i in 0..numbers.len() {
+        row.set(i, CellRef::Number(i128::from(numbers[i])));
+    }
+    Ok(row)
+}
+
 /// A search among numbers from 1 to 9, with the first ones fixed.
 fn solve(
     alloc: Global,
@@ -156,10 +184,7 @@ fn solve(
         })?;
         levels.push(Level::new())?;
     }
-    let mut row = RowBuf::open(alloc, fixed.len())?;
-    for i in 0..row.len() {
-        row.set(i, CellRef::Number(i128::from(fixed[i])));
-    }
+    let row = row_of(alloc, fixed)?;
     let tree = Tree {
         nodes: nodes.as_slice(),
         row: &row,

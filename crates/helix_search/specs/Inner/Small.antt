@@ -31,15 +31,15 @@ units_of other = pos 0
 -- what a gap asks of the child
 abbrev pub MeetsLower : Gap → Cell → Cell → Type 0
 MeetsLower (Above by) p v = (units_of p +ℤ pos by) <ℤ units_of v
-MeetsLower other p v = Unit {0}
+MeetsLower gap p v = Unit {0}
 
 abbrev pub MeetsUpper : Gap → Cell → Cell → Type 0
 MeetsUpper (Below by) p v = (units_of v +ℤ pos by) <ℤ units_of p
-MeetsUpper other p v = Unit {0}
+MeetsUpper gap p v = Unit {0}
 
 abbrev pub IsAllowed : Gap → Cell → Cell → Type 0
 IsAllowed Other p v = units_of v ≢ units_of p
-IsAllowed other p v = Unit {0}
+IsAllowed gap p v = Unit {0}
 
 -- with parent and child exchanged a gap says what another one does
 abbrev pub AreReverse : Gap → Gap → Type 0
@@ -60,6 +60,6 @@ abbrev pub AllWithinNew : List (Neighbour Gap) → ℕ → Type 0
 AllWithinNew ns count = (i : ℕ) → i < count → IsNew ns i
 
 -- all neighbours of a node are so, and are there once
-abbrev pub IsSmallNode : Tree Span Gap → Node Span Gap → Type 0
-IsSmallNode tree node = All (IsSmallNeighbour tree) node.neighbours
-    × AllWithinNew node.neighbours (length node.neighbours)
+pub record IsSmallNode (tree : Tree Span Gap) (node : Node Span Gap) : Type 0 where
+  pub each : All (IsSmallNeighbour tree) node.neighbours
+  pub once : AllWithinNew node.neighbours (length node.neighbours)

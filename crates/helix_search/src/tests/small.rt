@@ -1,9 +1,10 @@
 //! Fields of small numbers, and gaps between them.
 
-ghost use Rattle.std.specs.Prelude.{◌↔◌, ℤ, pos, ◌≤ℤ◌, IfSome, IfNone};
+ghost use Rattle.std.specs.Prelude.{◌≡◌, ◌↔◌, ℤ, pos, ◌+ℤ◌, ◌≤ℤ◌, IfSome, IfNone};
 ghost use Rattle.helix_search.specs.Inner.Small.{HasNumber, MeetsLower, MeetsUpper, IsAllowed, IsByte};
 ghost use Rattle.helix_values.specs.Class.{numbers};
 ghost use Rattle.helix_values.specs.Counts.{IsMarkOf};
+ghost use Rattle.helix_values.specs.Universe.{IsDecimal};
 ghost use Rattle.helix_values.specs.Marks.{IsAdmitted};
 ghost use Rattle.helix_values.specs.declared.cell.Cell.TheVariants as cells;
 
@@ -43,8 +44,16 @@ fn least_from(mark: Mark<'_>) -> Option<i128>
     }
 }
 
+/// A number that is so much greater.
+fn raised(units: i128, by: u8) -> i128
+    requires { IsDecimal units }
+    ensures { result ≡ units +ℤ pos by }
+{
+    units + i128::from(by)
+}
+
 impl Choices for Span {
-    ghost use Rattle.helix_search.proofs.SmallNumbers.{number_is_value};
+    ghost use Rattle.helix_search.specs.Inner.SmallLaws.{number_is_value};
 
     ghost class = { λ s. numbers };
 
@@ -71,7 +80,7 @@ impl Choices for Span {
 }
 
 impl Link for Gap {
-    ghost use Rattle.helix_search.proofs.SmallNumbers.{lower_rises, upper_rises, upper_holds_below};
+    ghost use Rattle.helix_search.specs.Inner.SmallLaws.{lower_rises, upper_rises, upper_holds_below};
 
     ghost class = { λ s. numbers };
 
@@ -84,7 +93,7 @@ impl Link for Gap {
     fn lower<'a>(&self, parent: CellRef<'a>) -> Option<Mark<'a>> {
         match (*self, parent) {
             (Gap::Above(by), CellRef::Number(units)) => {
-                Some(Mark::After(CellRef::Number(units + i128::from(by))))
+                Some(Mark::After(CellRef::Number(raised(units, by))))
             }
             _ => Some(Mark::Start),
         }
@@ -92,7 +101,7 @@ impl Link for Gap {
 
     fn passes_upper(&self, parent: CellRef<'_>, child: CellRef<'_>) -> bool {
         match (*self, parent, child) {
-            (Gap::Below(by), CellRef::Number(p), CellRef::Number(v)) => v + i128::from(by) < p,
+            (Gap::Below(by), CellRef::Number(p), CellRef::Number(v)) => raised(v, by) < p,
             _ => true,
         }
     }
@@ -100,7 +109,7 @@ impl Link for Gap {
     fn inverse<'a>(&self, child: CellRef<'a>) -> Option<Mark<'a>> {
         match (*self, child) {
             (Gap::Below(by), CellRef::Number(units)) => {
-                Some(Mark::After(CellRef::Number(units + i128::from(by))))
+                Some(Mark::After(CellRef::Number(raised(units, by))))
             }
             _ => Some(Mark::Start),
         }

@@ -25,19 +25,20 @@ units_rise (cell.Number a) (cell.Number b) of_p of_q from = by (int_cmp b a) ref
     by Less e = absurd (from e)
     by Equal e = omega (arith, ints, subst (λ o. MatchOrdering o (b <ℤ a) (b ≡ a) (a <ℤ b)) e (int_ranks b a))
     by Greater e = omega (arith, ints, subst (λ o. MatchOrdering o (b <ℤ a) (b ≡ a) (a <ℤ b)) e (int_ranks b a))
-units_rise p q of_p of_q from = cc
+units_rise (cell.Number a) other of_p of_q from = absurd of_q
+units_rise other q of_p of_q from = absurd of_p
 
 pub lower_rises : (s : Gap) (p q v : Cell) → IsValue numbers p → IsValue numbers q → IsValue numbers v
     → ¬ CellLess q p → MeetsLower s q v → MeetsLower s p v
 lower_rises (Above by) p q v of_p of_q of_v from met = omega (arith, ints, met, units_rise p q of_p of_q from)
-lower_rises other p q v of_p of_q of_v from met = tt
+lower_rises gap p q v of_p of_q of_v from met = tt
 
 pub upper_rises : (s : Gap) (p q v : Cell) → IsValue numbers p → IsValue numbers q → IsValue numbers v
     → ¬ CellLess q p → MeetsUpper s p v → MeetsUpper s q v
 upper_rises (Below by) p q v of_p of_q of_v from met = omega (arith, ints, met, units_rise p q of_p of_q from)
-upper_rises other p q v of_p of_q of_v from met = tt
+upper_rises gap p q v of_p of_q of_v from met = tt
 
 pub upper_holds_below : (s : Gap) (p v w : Cell) → IsValue numbers p → IsValue numbers v → IsValue numbers w
     → ¬ CellLess w v → MeetsUpper s p w → MeetsUpper s p v
 upper_holds_below (Below by) p v w of_p of_v of_w from met = omega (arith, ints, met, units_rise v w of_v of_w from)
-upper_holds_below other p v w of_p of_v of_w from met = tt
+upper_holds_below gap p v w of_p of_v of_w from met = tt
