@@ -1,9 +1,6 @@
 -- What is asked of one neighbour.
-use Rattle.std.proofs.Common.{◌≡◌, ◌≢◌, ◌↔◌, ℕ, zero, suc, ◌<◌, length, Bool, true, false, Option, None, Some, List, [], ◌∷◌, inl, inr, refl, sym, ap, ◌∙◌, subst, arith, slice_get, get_or, IsTrue}
-use Rattle.std.specs.List.{All}
-use Rattle.std.proofs.lemmas.List.{get_or_default}
+use Rattle.std.proofs.Common.{◌≡◌, ◌↔◌, ℕ, zero, suc, ◌<◌, Bool, true, false, Option, None, Some, sym, ◌∙◌, subst, IsTrue}
 use Rattle.helix_values.specs.declared.cell.Cell.{Cell}
-use Rattle.helix_values.specs.declared.cell.Cell.TheVariants as cell
 use Rattle.helix_values.specs.declared.mark.Mark.{Mark}
 use Rattle.helix_values.specs.Class.{Class}
 use Rattle.helix_values.specs.Marks.{IsAdmitted}
@@ -11,22 +8,18 @@ use Rattle.helix_values.specs.Order.{CellLess}
 use Rattle.helix_words.specs.Questions.{IsLeastAdmitted}
 use Rattle.helix_search.specs.declared.kept.Side.{Side}
 use Rattle.helix_search.specs.declared.kept.Side.TheVariants as side
-use Rattle.helix_search.specs.declared.kept.Verdict.{Verdict}
 use Rattle.helix_search.specs.declared.link.Exclusion.{Exclusion}
 use Rattle.helix_search.specs.declared.link.Exclusion.TheVariants.{No, Until, Rest}
-use Rattle.helix_search.specs.declared.node.Node.{Node}
 use Rattle.helix_search.specs.declared.node.Neighbour.{Neighbour}
 use Rattle.helix_search.specs.declared.tree.Tree.{Tree}
 use Rattle.helix_search.specs.declared.tree.Visit.{Visit}
 use Rattle.helix_search.specs.Bounds.{IsValue, AreThoseAdmitted}
 use Rattle.helix_search.specs.Exclusion.{IsExclusion}
-use Rattle.helix_search.specs.Extending.{HasPartner}
-use Rattle.helix_search.specs.Nodes.{AreNodes, HasIn, Stands, fixed_of, cell_in}
-use Rattle.helix_search.specs.Trees.{AreFixed, ExtendsIn, fixed_cell}
-use Rattle.helix_search.specs.Inner.Asked.{HasChild, IsAsked, IsFirst, IsVisit, Needs, StandsAll}
-use Rattle.helix_search.specs.Inner.Kept.{IsMarkKept, IsVerdict, Raises}
+use Rattle.helix_search.specs.Nodes.{HasIn, Stands}
+use Rattle.helix_search.specs.Trees.{ExtendsIn}
+use Rattle.helix_search.specs.Inner.Asked.{HasChild, IsAsked, IsFirst}
+use Rattle.helix_search.specs.Inner.Kept.{IsMarkKept, Raises}
 use Rattle.helix_search.proofs.Children as child
-use Rattle.helix_search.proofs.KeptMarks.{verdict_same, verdict_more}
 use Rattle.helix_search.proofs.Orders.{left, left_falls}
 
 -- a test that answers false
@@ -41,9 +34,9 @@ module _ {V K : Type 0} (class : V → Class) (link_class : K → Class) (Has : 
     (Lower Upper Allowed : K → Cell → Cell → Type 0)
     (within : (s : V) (v : Cell) → Has s v → IsValue (class s) v)
     (lower_rises : (s : K) (p q v : Cell) → IsValue (link_class s) p → IsValue (link_class s) q
-      → IsValue (link_class s) v → ¬ CellLess q p → Lower s q v → Lower s p v)
+    → IsValue (link_class s) v → ¬ CellLess q p → Lower s q v → Lower s p v)
     (upper_holds_below : (s : K) (p v w : Cell) → IsValue (link_class s) p → IsValue (link_class s) v
-      → IsValue (link_class s) w → ¬ CellLess w v → Upper s p w → Upper s p v)
+    → IsValue (link_class s) w → ¬ CellLess w v → Upper s p w → Upper s p v)
     (tree : Tree V K) (visit : Visit V K) (n : Neighbour K)
     (asked : IsAsked class link_class (Stands Lower Upper Allowed) tree visit n) (depth : ℕ) where
   -- the cells of the neighbour that extend are values of the node's class
@@ -128,7 +121,7 @@ module _ {V K : Type 0} (class : V → Class) (link_class : K → Class) (Has : 
             (v_shown : Cell) (is : v_shown ≡ v) where
           pub is_first : Upper n.down shown v_shown
               → IsFirst (class visit.here.now.values) Lower Upper Allowed n.down
-                (ExtendsIn Has (Stands Lower Upper Allowed) tree depth (Some visit.node) n.node) p v
+              (ExtendsIn Has (Stands Lower Upper Allowed) tree depth (Some visit.node) n.node) p v
           is_first upper = child.is_first (class visit.here.now.values) Lower Upper Allowed n.down rises
               holds_below
               (ExtendsIn Has (Stands Lower Upper Allowed) tree depth (Some visit.node) n.node) child_within p of_p
@@ -139,7 +132,7 @@ module _ {V K : Type 0} (class : V → Class) (link_class : K → Class) (Has : 
               → ¬ Upper n.down shown v_shown
               → AreThoseAdmitted (link_class n.down) (λ q. Upper n.down q v_shown) (Some next)
               → Raises (class visit.here.now.values)
-                (λ q. HasChild Has (Stands Lower Upper Allowed) tree depth visit.node n q) p next_how next_bound
+              (λ q. HasChild Has (Stands Lower Upper Allowed) tree depth visit.node n q) p next_how next_bound
           raises_inverse next next_how next_bound next_kept broken inverse =
               child.raises_inverse (class visit.here.now.values) Lower Upper Allowed n.down rises holds_below
               (ExtendsIn Has (Stands Lower Upper Allowed) tree depth (Some visit.node) n.node) child_within p of_p
@@ -179,7 +172,7 @@ module _ {V K : Type 0} (class : V → Class) (link_class : K → Class) (Has : 
           module _ (next_shown : Cell) (next_is : next_shown ≡ next) where
             pub next_first : Upper n.down shown next_shown
                 → IsFirst (class visit.here.now.values) Lower Upper Allowed n.down
-                  (ExtendsIn Has (Stands Lower Upper Allowed) tree depth (Some visit.node) n.node) p next
+                (ExtendsIn Has (Stands Lower Upper Allowed) tree depth (Some visit.node) n.node) p next
             next_first upper = child.next_first (class visit.here.now.values) Lower Upper Allowed n.down rises
                 holds_below
                 (ExtendsIn Has (Stands Lower Upper Allowed) tree depth (Some visit.node) n.node) child_within p of_p
@@ -213,7 +206,7 @@ module _ {V K : Type 0} (class : V → Class) (link_class : K → Class) (Has : 
 
     pub raises_past : (bound : Cell) → bound ≡ p → ¬ HasChild Has (Stands Lower Upper Allowed) tree depth visit.node n p
         → Raises (class visit.here.now.values)
-          (λ q. HasChild Has (Stands Lower Upper Allowed) tree depth visit.node n q) p side.After bound
+        (λ q. HasChild Has (Stands Lower Upper Allowed) tree depth visit.node n q) p side.After bound
     raises_past bound bound_is none = child.raises_past (class visit.here.now.values) Lower Upper Allowed n.down rises
         holds_below
         (ExtendsIn Has (Stands Lower Upper Allowed) tree depth (Some visit.node) n.node) child_within p of_p bound

@@ -15,14 +15,14 @@ use Rattle.helix_search.specs.Nodes.{Stands}
 use Rattle.helix_search.specs.Inner.Asked.{IsFirst}
 use Rattle.helix_search.specs.Inner.Kept.{IsMarkKept, Raises}
 use Rattle.helix_search.proofs.KeptMarks.{admits_kept, kept_admits, kept_of, same_mark, admits_up, above_refused}
-use Rattle.helix_search.proofs.Orders.{from_both, never_less, never_both, same_cell, value_is_bound, cases_cell}
+use Rattle.helix_search.proofs.Orders.{from_both, never_less, never_both, value_is_bound, cases_cell}
 
 -- a link with its laws, and the cells of the child that extend, which are values
 module _ {K : Type 0} (class : Class) (Lower Upper Allowed : K → Cell → Cell → Type 0) (link : K)
     (lower_rises : (p q v : Cell) → IsValue class p → IsValue class q → IsValue class v
-      → ¬ CellLess q p → Lower link q v → Lower link p v)
+    → ¬ CellLess q p → Lower link q v → Lower link p v)
     (upper_holds_below : (p v w : Cell) → IsValue class p → IsValue class v → IsValue class w
-      → ¬ CellLess w v → Upper link p w → Upper link p v)
+    → ¬ CellLess w v → Upper link p w → Upper link p v)
     (C : Cell → Type 0) (within : (w : Cell) → C w → IsValue class w) (p : Cell) (of_p : IsValue class p) where
   -- the candidate, or another value, has a child
   abbrev pub Child : Cell → Type 0
@@ -110,11 +110,15 @@ module _ {K : Type 0} (class : Class) (Lower Upper Allowed : K → Cell → Cell
             child.2.upper)
 
   pub first_stands : (v : Cell) → IsFirst class Lower Upper Allowed link C p v → Allowed link p v → Child p
-  first_stands v first allowed = (v, first.is, record {
-    lower = first.lower v (within v first.is) (never_less v);
-    upper = first.upper;
-    allowed = allowed;
-  })
+  first_stands v first allowed = (
+    v,
+    first.is,
+    record {
+      lower = first.lower v (within v first.is) (never_less v);
+      upper = first.upper;
+      allowed = allowed;
+    },
+  )
 
   pub none_in_rest : (v : Cell) → IsFirst class Lower Upper Allowed link C p v
       → IsExclusion class (Allowed link p) v Rest → ¬ Child p

@@ -1,5 +1,5 @@
 -- Counts that don't fall.
-use Rattle.std.proofs.Common.{◌≤◌, arith}
+use Rattle.std.proofs.Common.{arith}
 use Rattle.helix_base.specs.Steps.{Tally}
 use Rattle.helix_search.specs.Counting.{CountsGrow}
 

@@ -1,5 +1,5 @@
 -- Marks that are kept as a side and a bound.
-use Rattle.std.proofs.Common.{◌≡◌, ◌↔◌, ⊎_elim, inl, inr, refl, sym, subst}
+use Rattle.std.proofs.Common.{◌≡◌, ◌↔◌, inl, inr, refl, sym, subst}
 use Rattle.helix_values.specs.declared.cell.Cell.{Cell}
 use Rattle.helix_values.specs.declared.mark.Mark.{Mark}
 use Rattle.helix_values.specs.declared.mark.Mark.TheVariants.{Start, At, After}
@@ -9,7 +9,6 @@ use Rattle.helix_values.specs.Marks.{IsAdmitted}
 use Rattle.helix_values.specs.Order.{CellLess}
 use Rattle.helix_values.specs.View.{cell_of}
 use Rattle.helix_search.specs.declared.kept.Side.{Side}
-use Rattle.helix_search.specs.declared.kept.Side.TheVariants as side
 use Rattle.helix_search.specs.declared.kept.Verdict.{Verdict}
 use Rattle.helix_search.specs.declared.kept.Verdict.TheVariants.{Stands, Raise, Fails}
 use Rattle.helix_search.specs.Bounds.{IsValue}

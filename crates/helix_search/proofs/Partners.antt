@@ -1,5 +1,5 @@
 -- The neighbours of a node as code sees them, and as the graph has them.
-use Rattle.std.proofs.Common.{◌≡◌, ◌≢◌, ◌↔◌, ℕ, suc, ◌<◌, ◌⊎◌, inl, inr, List, [], ◌∷◌, Option, None, Some, length, map, get_or, refl, sym, ap, ◌∙◌, subst, arith, slice_get}
+use Rattle.std.proofs.Common.{◌≡◌, ◌≢◌, ◌↔◌, ℕ, suc, ◌<◌, inl, inr, List, [], ◌∷◌, Option, None, Some, length, map, get_or, refl, sym, ap, ◌∙◌, subst, arith}
 use Rattle.std.specs.List.{All, AllPairs, Contains}
 use Rattle.std.proofs.lemmas.Bool.{cases_lt}
 use Rattle.std.proofs.lemmas.List.{get_or_default, get_or-map, length-map}
@@ -24,7 +24,7 @@ contains_map : {X : Type 0} (f : X → ℕ) (xs : List X) (c : ℕ) → Contains
 contains_map f [] c contains = absurd (omega (arith, contains.1))
 contains_map f (x ∷ xs) c contains =
     let within : contains.0 < length (x ∷ xs) =
-        subst (λ n. contains.0 < n) (length-map (x ∷ xs) f) contains.1 in
+    subst (λ n. contains.0 < n) (length-map (x ∷ xs) f) contains.1 in
     (contains.0, x, within, sym (get_or-map f (x ∷ xs) contains.0 x c within) ∙ contains.2)
 
 map_contains : {X : Type 0} (f : X → ℕ) (xs : List X) (k : ℕ) (d : X) → k < length xs
@@ -58,8 +58,8 @@ module _ {V K : Type 0} (Has : V → Cell → Type 0) (Stand : K → Cell → Ce
   abbrev Asks : Option (Node V K) → ℕ → Type 0
   Asks here c = visit.from ≢ Some c
       → HasPartner (λ w. All (λ n. n.node ≡ c → Stand n.down v w) (neighbours_in here))
-        (λ w. ExtendsIn Has Stand tree depth (Some visit.node) c w)
-        (fixed_of tree.nodes.now tree.row.now tree.fixed c)
+      (λ w. ExtendsIn Has Stand tree depth (Some visit.node) c w)
+      (fixed_of tree.nodes.now tree.row.now tree.fixed c)
 
   abbrev AsksAll : Option (Node V K) → Type 0
   AsksAll here = HasIn Has here v

@@ -1,5 +1,5 @@
 -- A candidate that is raised until it stands.
-use Rattle.std.proofs.Common.{◌≡◌, ◌↔◌, ℕ, suc, ◌<◌, Bool, true, false, sym, subst, arith, if◌then◌else◌}
+use Rattle.std.proofs.Common.{◌≡◌, ◌↔◌, suc, ◌<◌, Bool, true, false, sym, subst, arith, if◌then◌else◌}
 use Rattle.helix_values.specs.declared.cell.Cell.{Cell}
 use Rattle.helix_values.specs.declared.mark.Mark.{Mark}
 use Rattle.helix_values.specs.Class.{Class}

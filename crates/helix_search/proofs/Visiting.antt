@@ -1,6 +1,6 @@
 -- What all neighbours of a node say together.
-use Rattle.std.proofs.Common.{◌≡◌, ◌≢◌, ◌↔◌, ℕ, suc, ◌+◌, ◌<◌, ◌≤◌, length, Bool, true, false, Option, None, Some, List, [], ◌∷◌, inl, inr, refl, sym, ap, ◌∙◌, subst, arith, slice_get, get_or, nat_lt, if◌then◌else◌}
-use Rattle.std.specs.List.{All, AllWithin}
+use Rattle.std.proofs.Common.{◌≡◌, ◌≢◌, ◌↔◌, ℕ, suc, ◌+◌, ◌<◌, ◌≤◌, length, Bool, None, Some, List, inl, inr, refl, sym, ap, ◌∙◌, subst, arith, slice_get, get_or, if◌then◌else◌}
+use Rattle.std.specs.List.{AllWithin}
 use Rattle.std.proofs.lemmas.Bool.{cases_lt, lt-ltb, le-ltb}
 use Rattle.std.proofs.lemmas.List.{get_or_default}
 use Rattle.helix_values.specs.declared.cell.Cell.{Cell}
@@ -10,12 +10,11 @@ use Rattle.helix_search.specs.declared.kept.Verdict.{Verdict}
 use Rattle.helix_search.specs.declared.kept.Verdict.TheVariants as verdict
 use Rattle.helix_search.specs.declared.node.Node.{Node}
 use Rattle.helix_search.specs.declared.node.Neighbour.{Neighbour}
-use Rattle.helix_search.specs.declared.level.Level.{Level}
 use Rattle.helix_search.specs.declared.tree.Tree.{Tree}
 use Rattle.helix_search.specs.declared.tree.Visit.{Visit}
 use Rattle.helix_search.specs.Bounds.{IsValue}
 use Rattle.helix_search.specs.Extending.{HasPartner}
-use Rattle.helix_search.specs.Levels.{IsFound, first_candidate}
+use Rattle.helix_search.specs.Levels.{IsFound}
 use Rattle.helix_search.specs.Nodes.{AreNodes, IsNeighbour, Stands, fixed_of, cell_in}
 use Rattle.helix_search.specs.Trees.{AreFixed, ExtendsIn, fixed_cell, cell_at}
 use Rattle.helix_search.specs.Inner.Asked.{HasChild, IsAsked, IsVisit, Needs, StandsAll}
@@ -57,7 +56,7 @@ module _ {V K : Type 0} (class : V → Class) (link_class : K → Class) (Has : 
         → (found : Verdict) (bound : Cell)
         → IsVerdict (link_class n.up) (λ v. Stands Lower Upper Allowed n.up parent v) shown found bound
         → IsVerdict (class visit.here.now.values)
-          (λ v. Needs Has (Stands Lower Upper Allowed) tree depth visit n v) p found bound
+        (λ v. Needs Has (Stands Lower Upper Allowed) tree depth visit n v) p found bound
     fixed_verdict less parent shown parent_is shown_is found bound said =
         verdict_same (class visit.here.now.values)
         (λ v. Stands Lower Upper Allowed n.up (fixed_cell tree n.node) v)
@@ -74,16 +73,17 @@ module _ {V K : Type 0} (class : V → Class) (link_class : K → Class) (Has : 
             ↔ Needs Has (Stands Lower Upper Allowed) tree depth visit n q
         same q of_q = subst (λ f. Stands Lower Upper Allowed n.up (fixed_cell tree n.node) q
             ↔ ((visit.from ≢ Some n.node) → HasPartner (Stands Lower Upper Allowed n.down q)
-              (ExtendsIn Has (Stands Lower Upper Allowed) tree depth (Some visit.node) n.node) f))
-            (sym (fixed_is tree n.node asked.neighbour.is_node.0 less asked.neighbour.is_node.1))
-            ((λ stands _. (asked.neighbour.both_ways q (fixed_cell tree n.node) of_q (asked.fixed less)).1 stands),
-            (λ needs. (asked.neighbour.both_ways q (fixed_cell tree n.node) of_q (asked.fixed less)).0 (needs seen)))
+            (ExtendsIn Has (Stands Lower Upper Allowed) tree depth (Some visit.node) n.node) f))
+            (sym (fixed_is tree n.node asked.neighbour.is_node.0 less asked.neighbour.is_node.1)) (
+              (λ stands _. (asked.neighbour.both_ways q (fixed_cell tree n.node) of_q (asked.fixed less)).1 stands),
+              (λ needs. (asked.neighbour.both_ways q (fixed_cell tree n.node) of_q (asked.fixed less)).0 (needs seen)),
+            )
 
     pub child_verdict : tree.fixed ≤ n.node → (found : Verdict) (bound : Cell)
         → IsVerdict (class visit.here.now.values)
-          (λ v. HasChild Has (Stands Lower Upper Allowed) tree depth visit.node n v) p found bound
+        (λ v. HasChild Has (Stands Lower Upper Allowed) tree depth visit.node n v) p found bound
         → IsVerdict (class visit.here.now.values)
-          (λ v. Needs Has (Stands Lower Upper Allowed) tree depth visit n v) p found bound
+        (λ v. Needs Has (Stands Lower Upper Allowed) tree depth visit n v) p found bound
     child_verdict from found bound said =
         verdict_same (class visit.here.now.values)
         (λ v. HasChild Has (Stands Lower Upper Allowed) tree depth visit.node n v)
@@ -94,7 +94,7 @@ module _ {V K : Type 0} (class : V → Class) (link_class : K → Class) (Has : 
             ↔ Needs Has (Stands Lower Upper Allowed) tree depth visit n q
         same q of_q = subst (λ f. HasChild Has (Stands Lower Upper Allowed) tree depth visit.node n q
             ↔ ((visit.from ≢ Some n.node) → HasPartner (Stands Lower Upper Allowed n.down q)
-              (ExtendsIn Has (Stands Lower Upper Allowed) tree depth (Some visit.node) n.node) f))
+            (ExtendsIn Has (Stands Lower Upper Allowed) tree depth (Some visit.node) n.node) f))
             (sym (none_fixed tree n.node from))
             ((λ has _. has), (λ needs. needs seen))
 
@@ -109,7 +109,7 @@ module _ {V K : Type 0} (class : V → Class) (link_class : K → Class) (Has : 
     asked_at nodes fixed visited =
         let of_i = subst (λ (xs : List (Neighbour K)). i < length xs) items_are within in
         let at : get_or visit.here.now.neighbours i n ≡ n =
-            sym (is ∙ ap (λ (xs : List (Neighbour K)). get_or xs i n) items_are) in
+        sym (is ∙ ap (λ (xs : List (Neighbour K)). get_or xs i n) items_are) in
         record {
           neighbour = subst (IsNeighbour class link_class (Stands Lower Upper Allowed) tree.nodes.now visit.here.now) at (nodes.neighbours visit.node visit.here.now visited i n of_i);
           fixed = subst (λ (m : Neighbour K). m.node < tree.fixed
@@ -119,9 +119,9 @@ module _ {V K : Type 0} (class : V → Class) (link_class : K → Class) (Has : 
 
     pub verdict_of_all : (depth : ℕ) (p : Cell) (found : Verdict) (bound : Cell) → (found ≡ verdict.Stands → ⊥)
         → IsVerdict (class visit.here.now.values)
-          (λ v. Needs Has (Stands Lower Upper Allowed) tree depth visit n v) p found bound
+        (λ v. Needs Has (Stands Lower Upper Allowed) tree depth visit n v) p found bound
         → IsVerdict (class visit.here.now.values)
-          (λ v. StandsAll Has (Stands Lower Upper Allowed) tree depth visit v) p found bound
+        (λ v. StandsAll Has (Stands Lower Upper Allowed) tree depth visit v) p found bound
     verdict_of_all depth p found bound not said =
         verdict_more (class visit.here.now.values)
         (λ v. Needs Has (Stands Lower Upper Allowed) tree depth visit n v)
@@ -134,7 +134,7 @@ module _ {V K : Type 0} (class : V → Class) (link_class : K → Class) (Has : 
   pub found_at : AreNodes class link_class (Stands Lower Upper Allowed) tree.nodes.now → IsVisit tree visit
       → (m : Mark) (found : Bool) (depth room : ℕ) (v : Cell) → room ≡ suc depth
       → IsFound (λ w. Has visit.here.now.values w × StandsAll Has (Stands Lower Upper Allowed) tree depth visit w)
-        m found v
+      m found v
       → IsFound (ExtendsIn Has (Stands Lower Upper Allowed) tree room visit.from visit.node) m found v
   found_at nodes visited m found depth room v room_is said =
       subst (λ r. IsFound (ExtendsIn Has (Stands Lower Upper Allowed) tree r visit.from visit.node) m found v)

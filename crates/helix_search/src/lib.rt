@@ -1,4 +1,30 @@
-//! The least value of a field in a tree of related fields.
+//! The least value of a field in a tree of related fields, of those that the other fields of the tree can go along with.
+//!
+//! ```text
+//! let tree = Tree { nodes: &nodes, row: &row, fixed: 2 };           // nodes 0 and 1 have their cells in the row
+//! let found = least(&tree, 2, Mark::Start, &mut levels, &mut steps);
+//! levels[0].candidate.view()                                        // the value, where `found` is true
+//! ```
+//!
+//! A [`Node`] is a field: its values, and the [`Neighbour`]s that it is joined with. A [`Link`] says which values of the
+//! one, the child, stand beside a value of the other, the parent. The crate knows no tests and no relations: the values
+//! are any [`Choices`], and what joins two fields any [`Link`].
+//!
+//! What is proved:
+//! - [`least`] finds the least value of a node that a mark admits and that extends over the nodes that are seen from it,
+//!   and answers false exactly where there is none (`specs/Extending.antt` says what extends, `specs/Nodes.antt` which
+//!   graph the nodes are). A fixed neighbour has its cell, and nothing is seen through it.
+//! - It looks at as many nodes in a row as there are levels, so in a tree as many levels as nodes are enough.
+//! - It ends, takes no memory, and no count of steps falls.
+//!
+//! It needs nodes that are joined alike from both sides and have each neighbour once (`AreNodes`), fixed neighbours with
+//! values (`AreFixed`), and a mark of the node's class. It needs no tree: in a graph with cycles it finds what extends
+//! along each way of at most that many nodes.
+//!
+//! How it works: a candidate is tried, each neighbour is asked for the least value that the candidate's lower bound
+//! admits, and one that breaks the upper bound raises the candidate at once to the first that it allows. No clause says
+//! what that costs: it is few questions where bounds decide, and can be as many as there are values where a far field
+//! forces many small steps.
 #![tactic(auto)]
 
 mod ask;

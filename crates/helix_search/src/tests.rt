@@ -1,7 +1,7 @@
 //! Searches among small numbers.
 
 ghost use Rattle.std.specs.Prelude.{◌<◌, IsTrue, All, length};
-ghost use Rattle.helix_search.specs.Inner.Small.{AllWithinNew, AreReverse, IsNew, IsSmallNeighbour, IsSmallNode};
+ghost use Rattle.helix_search.specs.Inner.Small.{AllWithinNew, IsNew, IsSmallNeighbour, IsSmallNode};
 ghost use Rattle.helix_values.specs.Class.{numbers};
 ghost use Rattle.helix_values.specs.Counts.{IsMarkOf};
 
@@ -14,34 +14,46 @@ use small::{Gap, Span};
 use std::alloc::Global;
 use std::test::Fail;
 
-/// The gap that says the same with parent and child exchanged.
-fn reverse(gap: Gap) -> Gap {
-    match gap {
-        Gap::Above(by) => Gap::Below(by),
-        Gap::Below(by) => Gap::Above(by),
-        Gap::Other => Gap::Other,
+fn above(by: u8) -> Gap {
+    Gap {
+        above: Some(by),
+        below: None,
+        other: false,
     }
 }
 
-/// Whether two gaps say the same both ways.
-fn is_reverse(down: Gap, up: Gap) -> bool
-    ensures { IsTrue result → AreReverse down up }
-{
-    match (down, up) {
-        (Gap::Above(a), Gap::Below(b)) | (Gap::Below(a), Gap::Above(b)) => a == b,
-        (Gap::Other, Gap::Other) => true,
-        _ => false,
+fn below(by: u8) -> Gap {
+    Gap {
+        above: None,
+        below: Some(by),
+        other: false,
+    }
+}
+
+const OTHER: Gap = Gap {
+    above: None,
+    below: None,
+    other: true,
+};
+
+/// The gap that says the same with parent and child exchanged.
+fn reverse(gap: Gap) -> Gap {
+    Gap {
+        above: gap.below,
+        below: gap.above,
+        other: gap.other,
     }
 }
 
 /// Whether a neighbour is a node, as it is seen from both sides, and has a number if it is fixed.
 fn is_neighbour(tree: &Tree<'_, Span, Gap>, neighbour: &Neighbour<Gap>) -> bool
-    ensures { IsTrue result → IsSmallNeighbour tree.now neighbour.now }
+    ensures { IsTrue result → IsSmallNeighbour (λ g. g.above) (λ g. g.below) (λ g. g.other) tree.now neighbour.now }
 {
     let Some(other) = tree.nodes.get(neighbour.node) else {
         return false;
     };
-    if !is_reverse(neighbour.down, neighbour.up) {
+    let (down, up) = (neighbour.down, neighbour.up);
+    if down.above != up.below || down.below != up.above || down.other != up.other {
         return false;
     }
     if neighbour.node >= tree.fixed {
@@ -77,7 +89,7 @@ fn are_once(neighbours: &[Neighbour<Gap>]) -> bool
 
 /// Whether all neighbours of a node are as they should be.
 fn are_neighbours(tree: &Tree<'_, Span, Gap>, neighbours: &[Neighbour<Gap>]) -> bool
-    ensures { IsTrue result → All (IsSmallNeighbour tree.now) neighbours.now }
+    ensures { IsTrue result → All (IsSmallNeighbour (λ g. g.above) (λ g. g.below) (λ g. g.other) tree.now) neighbours.now }
 {
     for neighbour in neighbours {
         if !is_neighbour(tree, neighbour) {
@@ -89,14 +101,14 @@ fn are_neighbours(tree: &Tree<'_, Span, Gap>, neighbours: &[Neighbour<Gap>]) -> 
 
 /// The same, and whether each is there once.
 fn is_node(tree: &Tree<'_, Span, Gap>, node: &Node<Span, Gap>) -> bool
-    ensures { IsTrue result → IsSmallNode tree.now node.now }
+    ensures { IsTrue result → IsSmallNode (λ g. g.above) (λ g. g.below) (λ g. g.other) tree.now node.now }
 {
     are_neighbours(tree, node.neighbours.as_slice()) && are_once(node.neighbours.as_slice())
 }
 
 /// Whether all nodes are so.
 fn are_nodes(tree: &Tree<'_, Span, Gap>, nodes: &[Node<Span, Gap>]) -> bool
-    ensures { IsTrue result → All (IsSmallNode tree.now) nodes.now }
+    ensures { IsTrue result → All (IsSmallNode (λ g. g.above) (λ g. g.below) (λ g. g.other) tree.now) nodes.now }
 {
     for node in nodes {
         if !is_node(tree, node) {
@@ -120,7 +132,12 @@ fn finds(tree: &Tree<'_, Span, Gap>, node: usize, mark: Mark<'_>, levels: &mut [
 }
 
 /// The least number of a node from one on, of those that extend; none where the tree can't be searched.
-fn number_from(tree: &Tree<'_, Span, Gap>, node: usize, from: u8, levels: &mut [Level]) -> Option<i128> {
+fn number_from(
+    tree: &Tree<'_, Span, Gap>,
+    node: usize,
+    from: u8,
+    levels: &mut [Level],
+) -> Option<i128> {
     let mark = Mark::At(CellRef::Number(i128::from(from)));
     if levels.is_empty() || !finds(tree, node, mark, levels) {
         return None;
@@ -197,19 +214,19 @@ fn solve(
 fn finds_the_least_numbers(rt: HostRuntime) -> Result<(), Fail> {
     // Each next number is more than 1 above the one before.
     let chain: &[(usize, usize, Gap)] = &[
-        (0, 1, Gap::Above(1)),
-        (1, 2, Gap::Above(1)),
-        (2, 3, Gap::Above(1)),
-        (3, 4, Gap::Above(1)),
+        (0, 1, above(1)),
+        (1, 2, above(1)),
+        (2, 3, above(1)),
+        (3, 4, above(1)),
     ];
     // 1 and 2 are above 0, and 3 is below it; 4 is below 3 and 2.
     let star: &[(usize, usize, Gap)] = &[
-        (0, 1, Gap::Above(2)),
-        (0, 2, Gap::Above(0)),
-        (0, 3, Gap::Below(1)),
-        (3, 4, Gap::Below(0)),
+        (0, 1, above(2)),
+        (0, 2, above(0)),
+        (0, 3, below(1)),
+        (3, 4, below(0)),
     ];
-    let others: &[(usize, usize, Gap)] = &[(0, 1, Gap::Other), (1, 2, Gap::Above(7))];
+    let others: &[(usize, usize, Gap)] = &[(0, 1, OTHER), (1, 2, above(7))];
     let cases: [(&[(usize, usize, Gap)], &[u8], usize, u8, Option<i128>); 17] = [
         (chain, &[], 0, 0, Some(1)),
         (chain, &[], 0, 2, None),

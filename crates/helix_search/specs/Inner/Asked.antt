@@ -1,5 +1,5 @@
 -- What is asked of the neighbours of a node.
-use Rattle.std.specs.Prelude.{◌≡◌, ◌≢◌, ℕ, ◌<◌, Bool, Option, Some, slice_get, MatchBool}
+use Rattle.std.specs.Prelude.{◌≡◌, ◌≢◌, ℕ, ◌<◌, Bool, Some, slice_get, MatchBool}
 use Rattle.std.specs.List.{All}
 use Rattle.helix_values.specs.declared.cell.Cell.{Cell}
 use Rattle.helix_values.specs.declared.mark.Mark.{Mark}
@@ -34,7 +34,7 @@ abbrev pub Needs : {V K : Type 0} → (V → Cell → Type 0) → (K → Cell �
     → Neighbour K → Cell → Type 0
 Needs Has Stand tree depth visit n v = visit.from ≢ Some n.node
     → HasPartner (Stand n.down v) (ExtendsIn Has Stand tree depth (Some visit.node) n.node)
-      (fixed_of tree.nodes.now tree.row.now tree.fixed n.node)
+    (fixed_of tree.nodes.now tree.row.now tree.fixed n.node)
 
 -- a cell of the node that has a partner at each neighbour
 abbrev pub StandsAll : {V K : Type 0} → (V → Cell → Type 0) → (K → Cell → Cell → Type 0) → Tree V K → ℕ → Visit V K

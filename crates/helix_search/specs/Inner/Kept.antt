@@ -6,7 +6,6 @@ use Rattle.helix_values.specs.declared.mark.Mark.TheVariants.{Start, At, After}
 use Rattle.helix_values.specs.Class.{Class, AreComparable}
 use Rattle.helix_values.specs.Counts.{IsMarkBound}
 use Rattle.helix_values.specs.Order.{CellLess}
-use Rattle.helix_values.specs.Slot.{FitsSlot}
 use Rattle.helix_values.specs.View.{cell_of}
 use Rattle.helix_search.specs.declared.kept.Side.{Side}
 use Rattle.helix_search.specs.declared.kept.Side.TheVariants as side

@@ -19,15 +19,12 @@ pub struct Span {
     pub high: u8,
 }
 
-/// What the child's value is, compared with the parent's.
-#[derive(Clone, Copy, Debug, PartialEq, Eq)]
-pub enum Gap {
-    /// More than so much above it.
-    Above(u8),
-    /// More than so much below it.
-    Below(u8),
-    /// Another one.
-    Other,
+/// What the child's value is, compared with the parent's: more than so much above it, or below it, and another one.
+#[derive(Clone, Copy, Debug)]
+pub struct Gap {
+    pub above: Option<u8>,
+    pub below: Option<u8>,
+    pub other: bool,
 }
 
 /// The least of the numbers from 0 to 255 that a mark admits.
@@ -84,15 +81,15 @@ impl Link for Gap {
 
     ghost class = { λ s. numbers };
 
-    ghost Lower = { MeetsLower };
+    ghost Lower = { λ s. MeetsLower s.above };
 
-    ghost Upper = { MeetsUpper };
+    ghost Upper = { λ s. MeetsUpper s.below };
 
-    ghost Allowed = { IsAllowed };
+    ghost Allowed = { λ s. IsAllowed s.other };
 
     fn lower<'a>(&self, parent: CellRef<'a>) -> Option<Mark<'a>> {
-        match (*self, parent) {
-            (Gap::Above(by), CellRef::Number(units)) => {
+        match (self.above, parent) {
+            (Some(by), CellRef::Number(units)) => {
                 Some(Mark::After(CellRef::Number(raised(units, by))))
             }
             _ => Some(Mark::Start),
@@ -100,15 +97,15 @@ impl Link for Gap {
     }
 
     fn passes_upper(&self, parent: CellRef<'_>, child: CellRef<'_>) -> bool {
-        match (*self, parent, child) {
-            (Gap::Below(by), CellRef::Number(p), CellRef::Number(v)) => raised(v, by) < p,
+        match (self.below, parent, child) {
+            (Some(by), CellRef::Number(p), CellRef::Number(v)) => raised(v, by) < p,
             _ => true,
         }
     }
 
     fn inverse<'a>(&self, child: CellRef<'a>) -> Option<Mark<'a>> {
-        match (*self, child) {
-            (Gap::Below(by), CellRef::Number(units)) => {
+        match (self.below, child) {
+            (Some(by), CellRef::Number(units)) => {
                 Some(Mark::After(CellRef::Number(raised(units, by))))
             }
             _ => Some(Mark::Start),
@@ -116,17 +113,17 @@ impl Link for Gap {
     }
 
     fn excludes<'a>(&self, parent: CellRef<'_>, child: CellRef<'a>) -> Exclusion<'a> {
-        match (*self, parent, child) {
-            (Gap::Other, CellRef::Number(p), CellRef::Number(v)) if p == v => {
+        match (self.other, parent, child) {
+            (true, CellRef::Number(p), CellRef::Number(v)) if p == v => {
                 Exclusion::Until(Mark::After(child))
             }
             _ => Exclusion::No,
         }
     }
 
-    ghost lower_rises = { λ s p q v of_p of_q of_v from met. lower_rises s p q v of_p of_q of_v from met };
+    ghost lower_rises = { λ s. lower_rises s.above };
 
-    ghost upper_rises = { λ s p q v of_p of_q of_v from met. upper_rises s p q v of_p of_q of_v from met };
+    ghost upper_rises = { λ s. upper_rises s.below };
 
-    ghost upper_holds_below = { λ s p v w of_p of_v of_w from met. upper_holds_below s p v w of_p of_v of_w from met };
+    ghost upper_holds_below = { λ s. upper_holds_below s.below };
 }

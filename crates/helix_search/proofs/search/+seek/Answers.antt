@@ -117,23 +117,25 @@ pub check-returns-in_default : goal.check-returns-in_default
 check-returns-in_default g t c =
     record {
       verdict = visiting.verdict_of_all g.V.Choices.class g.K.Link.class g.V.Choices.Has g.K.Link.Lower g.K.Link.Upper g.K.Link.Allowed
-    c.args.tree.now c.args.visit.now c.as_slice-neighbour-items.result.now c.as_slice-neighbour-items.ensures
-    c.loop-neighbour.neighbour-index c.neighbour-item.result c.loop-neighbour-test.true c.neighbour-item.is
+          c.args.tree.now c.args.visit.now c.as_slice-neighbour-items.result.now c.as_slice-neighbour-items.ensures
+          c.loop-neighbour.neighbour-index c.neighbour-item.result c.loop-neighbour-test.true c.neighbour-item.is
           (length c.args.rest.now) c.args.candidate.now c.ask.result c.ask.new.bound c.in_default.not-Stands
           (subst (λ d. IsVerdict (g.V.Choices.class c.args.visit.now.here.now.values)
-    (λ v. Needs g.V.Choices.Has (Stands g.K.Link.Lower g.K.Link.Upper g.K.Link.Allowed) c.args.tree.now d c.args.visit.now c.neighbour-item.result v)
-    c.args.candidate.now c.ask.result c.ask.new.bound) c.loop-neighbour.auto.rest c.ask.ensures.verdict);
+          (λ v. Needs g.V.Choices.Has (Stands g.K.Link.Lower g.K.Link.Upper g.K.Link.Allowed) c.args.tree.now d c.args.visit.now c.neighbour-item.result v)
+          c.args.candidate.now c.ask.result c.ask.new.bound) c.loop-neighbour.auto.rest c.ask.ensures.verdict);
       counts = grow_more _ _ _ c.loop-neighbour.invariant.1 c.ask.ensures.counts;
     }
 
 pub check-loop-neighbour-preserved : goal.check-loop-neighbour-preserved
-check-loop-neighbour-preserved g t c =
-    (within_more (λ n. Needs g.V.Choices.Has (Stands g.K.Link.Lower g.K.Link.Upper g.K.Link.Allowed) c.args.tree.now (length c.args.rest.now) c.args.visit.now n
-    c.args.candidate.now) c.as_slice-neighbour-items.result.now
-    c.loop-neighbour.neighbour-index c.neighbour-item.result c.loop-neighbour-test.true c.neighbour-item.is
-    (subst (λ d. Needs g.V.Choices.Has (Stands g.K.Link.Lower g.K.Link.Upper g.K.Link.Allowed) c.args.tree.now d c.args.visit.now c.neighbour-item.result
-    c.args.candidate.now) c.loop-neighbour.auto.rest c.in-Stands.ensures.verdict)
-    c.loop-neighbour.invariant.0, grow_more _ _ _ c.loop-neighbour.invariant.1 c.in-Stands.ensures.counts)
+check-loop-neighbour-preserved g t c = (
+  within_more (λ n. Needs g.V.Choices.Has (Stands g.K.Link.Lower g.K.Link.Upper g.K.Link.Allowed) c.args.tree.now (length c.args.rest.now) c.args.visit.now n
+      c.args.candidate.now) c.as_slice-neighbour-items.result.now
+      c.loop-neighbour.neighbour-index c.neighbour-item.result c.loop-neighbour-test.true c.neighbour-item.is
+      (subst (λ d. Needs g.V.Choices.Has (Stands g.K.Link.Lower g.K.Link.Upper g.K.Link.Allowed) c.args.tree.now d c.args.visit.now c.neighbour-item.result
+      c.args.candidate.now) c.loop-neighbour.auto.rest c.in-Stands.ensures.verdict)
+      c.loop-neighbour.invariant.0,
+  grow_more _ _ _ c.loop-neighbour.invariant.1 c.in-Stands.ensures.counts,
+)
 
 pub find_allowed-excludes-requires-clause-child : goal.find_allowed-excludes-requires-clause-child
 find_allowed-excludes-requires-clause-child g t c =
@@ -146,12 +148,14 @@ find_allowed-excludes-requires-clause-child g t c =
     c.args.neighbour.now c.requires.asked (length c.args.rest.now) (first_candidate c.loop-mark.rest) c.loop-mark.invariant.0.is)
 
 pub find_allowed-returns-in-No-clause-answer : goal.find_allowed-returns-in-No-clause-answer
-find_allowed-returns-in-No-clause-answer g t c =
-    ((λ _. asking.first_stands g.V.Choices.class g.K.Link.class g.V.Choices.Has g.K.Link.Lower g.K.Link.Upper g.K.Link.Allowed
-    g.met.V.Choices.within g.met.K.Link.lower_rises g.met.K.Link.upper_holds_below c.args.tree.now c.args.visit.now
-    c.args.neighbour.now c.requires.asked (length c.args.rest.now) c.args.candidate.now c.requires.candidate _
-    c.view-parent.ensures (first_candidate c.loop-mark.rest) c.loop-mark.invariant.0 _ c.first_candidate.ensures
-    c.in-No.ensures), (λ _. refl))
+find_allowed-returns-in-No-clause-answer g t c = (
+  (λ _. asking.first_stands g.V.Choices.class g.K.Link.class g.V.Choices.Has g.K.Link.Lower g.K.Link.Upper g.K.Link.Allowed
+      g.met.V.Choices.within g.met.K.Link.lower_rises g.met.K.Link.upper_holds_below c.args.tree.now c.args.visit.now
+      c.args.neighbour.now c.requires.asked (length c.args.rest.now) c.args.candidate.now c.requires.candidate _
+      c.view-parent.ensures (first_candidate c.loop-mark.rest) c.loop-mark.invariant.0 _ c.first_candidate.ensures
+      c.in-No.ensures),
+  (λ _. refl),
+)
 
 pub find_allowed-returns-in-Rest-clause-answer : goal.find_allowed-returns-in-Rest-clause-answer
 find_allowed-returns-in-Rest-clause-answer g t c =
@@ -212,18 +216,19 @@ find_allowed-loop-mark-smaller g t c =
     (first_candidate c.seek.new.levels)) c.loop-mark.auto.rest c.if-not-seek.ensures.answer)
 
 pub find_allowed-loop-mark-preserved : goal.find_allowed-loop-mark-preserved
-find_allowed-loop-mark-preserved g t c =
-    (asking.next_first g.V.Choices.class g.K.Link.class g.V.Choices.Has g.K.Link.Lower g.K.Link.Upper g.K.Link.Allowed
-    g.met.V.Choices.within g.met.K.Link.lower_rises g.met.K.Link.upper_holds_below c.args.tree.now c.args.visit.now
-    c.args.neighbour.now c.requires.asked (length c.args.rest.now) c.args.candidate.now c.requires.candidate _
-    c.view-parent.ensures c.in-Until.mark c.kept.result c.keep-side.result c.keep-side.new.bound c.keep-side.ensures
-    c.kept.ensures
-    (first_candidate c.loop-mark.rest) c.loop-mark.invariant.0 _ c.first_candidate.ensures c.in-Until.ensures (first_candidate c.seek.new.levels)
-    (subst (λ d. IsLeastAdmitted (ExtendsIn g.V.Choices.Has (Stands g.K.Link.Lower g.K.Link.Upper g.K.Link.Allowed) c.args.tree.now d
-    (Some c.args.visit.now.node) c.args.neighbour.now.node) c.kept.result
-    (first_candidate c.seek.new.levels)) c.loop-mark.auto.rest c.if-not-seek.ensures.answer)
-    _ c.first_candidate-in-loop-mark.ensures (c.passes_upper.ensures.0 c.if-not-passes_upper.false),
-    grow_more _ _ _ c.loop-mark.invariant.1 c.seek.ensures.counts)
+find_allowed-loop-mark-preserved g t c = (
+  asking.next_first g.V.Choices.class g.K.Link.class g.V.Choices.Has g.K.Link.Lower g.K.Link.Upper g.K.Link.Allowed
+      g.met.V.Choices.within g.met.K.Link.lower_rises g.met.K.Link.upper_holds_below c.args.tree.now c.args.visit.now
+      c.args.neighbour.now c.requires.asked (length c.args.rest.now) c.args.candidate.now c.requires.candidate _
+      c.view-parent.ensures c.in-Until.mark c.kept.result c.keep-side.result c.keep-side.new.bound c.keep-side.ensures
+      c.kept.ensures
+      (first_candidate c.loop-mark.rest) c.loop-mark.invariant.0 _ c.first_candidate.ensures c.in-Until.ensures (first_candidate c.seek.new.levels)
+      (subst (λ d. IsLeastAdmitted (ExtendsIn g.V.Choices.Has (Stands g.K.Link.Lower g.K.Link.Upper g.K.Link.Allowed) c.args.tree.now d
+      (Some c.args.visit.now.node) c.args.neighbour.now.node) c.kept.result
+      (first_candidate c.seek.new.levels)) c.loop-mark.auto.rest c.if-not-seek.ensures.answer)
+      _ c.first_candidate-in-loop-mark.ensures (c.passes_upper.ensures.0 c.if-not-passes_upper.false),
+  grow_more _ _ _ c.loop-mark.invariant.1 c.seek.ensures.counts,
+)
 
 pub seek-returns-clause-answer : goal.seek-returns-clause-answer
 seek-returns-clause-answer g t c =
@@ -271,20 +276,21 @@ settle-loop-found-smaller g t c =
     c.at_or_after-found-in-Raise.ensures.answer
 
 pub settle-loop-found-preserved : goal.settle-loop-found-preserved
-settle-loop-found-preserved g t c =
-    (settling.goes_on (g.V.Choices.class c.args.visit.now.here.now.values) (g.V.Choices.Has c.args.visit.now.here.now.values)
-    (λ v. StandsAll g.V.Choices.Has (Stands g.K.Link.Lower g.K.Link.Upper g.K.Link.Allowed) c.args.tree.now (length c.args.rest.now)
-    c.args.visit.now v)
-    (g.met.V.Choices.within c.args.visit.now.here.now.values) c.args.mark c.loop-found.level.candidate
-    (MatchBool-at_true _ _ c.loop-found-test.true c.loop-found.invariant.0) c.in-Raise.side c.check.new.bound
-    (subst (λ d. Raises (g.V.Choices.class c.args.visit.now.here.now.values)
-    (λ v. StandsAll g.V.Choices.Has (Stands g.K.Link.Lower g.K.Link.Upper g.K.Link.Allowed) c.args.tree.now d
-    c.args.visit.now v) c.loop-found.level.candidate c.in-Raise.side c.check.new.bound) c.loop-found.auto.rest
-    c.in-Raise.ensures.verdict) c.kept.result c.kept.ensures c.at_or_after-found-in-Raise.result
-    c.loop-found.level.candidate c.at_or_after-found-in-Raise.new.out
-    c.at_or_after-found-in-Raise.ensures.answer,
-    grow_more _ _ _ c.loop-found.invariant.1
-    (grow_more _ _ _ c.in-Raise.ensures.counts c.at_or_after-found-in-Raise.ensures.counts))
+settle-loop-found-preserved g t c = (
+  settling.goes_on (g.V.Choices.class c.args.visit.now.here.now.values) (g.V.Choices.Has c.args.visit.now.here.now.values)
+      (λ v. StandsAll g.V.Choices.Has (Stands g.K.Link.Lower g.K.Link.Upper g.K.Link.Allowed) c.args.tree.now (length c.args.rest.now)
+      c.args.visit.now v)
+      (g.met.V.Choices.within c.args.visit.now.here.now.values) c.args.mark c.loop-found.level.candidate
+      (MatchBool-at_true _ _ c.loop-found-test.true c.loop-found.invariant.0) c.in-Raise.side c.check.new.bound
+      (subst (λ d. Raises (g.V.Choices.class c.args.visit.now.here.now.values)
+      (λ v. StandsAll g.V.Choices.Has (Stands g.K.Link.Lower g.K.Link.Upper g.K.Link.Allowed) c.args.tree.now d
+      c.args.visit.now v) c.loop-found.level.candidate c.in-Raise.side c.check.new.bound) c.loop-found.auto.rest
+      c.in-Raise.ensures.verdict) c.kept.result c.kept.ensures c.at_or_after-found-in-Raise.result
+      c.loop-found.level.candidate c.at_or_after-found-in-Raise.new.out
+      c.at_or_after-found-in-Raise.ensures.answer,
+  grow_more _ _ _ c.loop-found.invariant.1
+      (grow_more _ _ _ c.in-Raise.ensures.counts c.at_or_after-found-in-Raise.ensures.counts),
+)
 
 pub settle-returns-clause-answer : goal.settle-returns-clause-answer
 settle-returns-clause-answer g t c =

@@ -1,4 +1,4 @@
-use Rattle.std.proofs.Common.{ℕ, suc, ◌+◌, ◌*◌, ◌<◌, Some, length, if◌then◌else◌}
+use Rattle.std.proofs.Common.{suc, ◌+◌, ◌*◌, Some, length, if◌then◌else◌}
 use Rattle.std.specs.List.{AllWithin}
 use Rattle.helix_search.specs.Counting.{CountsGrow}
 use Rattle.helix_search.specs.Levels.{first_candidate}
