@@ -14,12 +14,12 @@
 //! - [`least`] finds the least value of a node that a mark admits and that extends over the nodes that are seen from it,
 //!   and answers false exactly where there is none (`specs/Extending.antt` says what extends, `specs/Nodes.antt` which
 //!   graph the nodes are). A fixed neighbour has its cell, and nothing is seen through it.
-//! - It looks at as many nodes in a row as there are levels, so in a tree as many levels as nodes are enough.
+//! - It looks at as many nodes in a row as there are levels, and at no more.
 //! - It ends, takes no memory, and no count of steps falls.
 //!
 //! It needs nodes that are joined alike from both sides and have each neighbour once (`AreNodes`), fixed neighbours with
-//! values (`AreFixed`), and a mark of the node's class. It needs no tree: in a graph with cycles it finds what extends
-//! along each way of at most that many nodes.
+//! values (`AreFixed`), and a mark of the node's class. That as many levels as nodes are
+//! enough where the nodes form trees isn't shown here.
 //!
 //! How it works: a candidate is tried, each neighbour is asked for the least value that the candidate's lower bound
 //! admits, and one that breaks the upper bound raises the candidate at once to the first that it allows. No clause says
