@@ -72,7 +72,8 @@ module _ {K : Type 0} (class : Class) (Lower Upper Allowed : K → Cell → Cell
             → Raises class Child p next_how next_bound
         raises_inverse next next_how next_bound next_kept broken inverse = record {
           can_be_asked = kept_of class next next_how next_bound next_kept inverse.0.0;
-          passes = λ admitted. broken ((inverse.1 p of_p).1 (admits_kept next next_how next_bound p next_kept admitted));
+          passes = λ admitted. broken ((inverse.1 p of_p).1 (admits_kept next next_how next_bound p next_kept
+              admitted));
           admits = λ q of_q from child. kept_admits next next_how next_bound q next_kept
               ((inverse.1 q of_q).0 (meets_inverse q of_q from child));
         }

@@ -111,7 +111,8 @@ module _ {V K : Type 0} (class : V → Class) (link_class : K → Class) (Has : 
         let at : get_or visit.here.now.neighbours i n ≡ n =
         sym (is ∙ ap (λ (xs : List (Neighbour K)). get_or xs i n) items_are) in
         record {
-          neighbour = subst (IsNeighbour class link_class (Stands Lower Upper Allowed) tree.nodes.now visit.here.now) at (nodes.neighbours visit.node visit.here.now visited i n of_i);
+          neighbour = subst (IsNeighbour class link_class (Stands Lower Upper Allowed) tree.nodes.now visit.here.now)
+              at (nodes.neighbours visit.node visit.here.now visited i n of_i);
           fixed = subst (λ (m : Neighbour K). m.node < tree.fixed
               → IsValue (class visit.here.now.values) (fixed_cell tree m.node)) at
               (fixed visit.node visit.here.now visited i n of_i);

@@ -10,7 +10,8 @@ use Rattle.helix_search.specs.Bounds.{IsValue}
 use Rattle.helix_search.specs.Extending.{Graph}
 
 -- the child meets both bounds of the parent and is allowed
-pub record Stands {K : Type 0} (Lower Upper Allowed : K → Cell → Cell → Type 0) (link : K) (parent child : Cell) : Type 0 where
+pub record Stands {K : Type 0} (Lower Upper Allowed : K → Cell → Cell → Type 0) (link : K)
+    (parent child : Cell) : Type 0 where
   pub lower : Lower link parent child
   pub upper : Upper link parent child
   pub allowed : Allowed link parent child

@@ -55,12 +55,12 @@ pub trait Link {
         ensures { IsExclusion (class self.now) (Allowed self.now (cell_of parent.entry)) (cell_of child.entry) result };
 
     // No lower bound falls as the parent grows,
-    ghost lower_rises: { (s : Self) (p q v : Cell) → IsValue (class s) p → IsValue (class s) q → IsValue (class s) v
-        → ¬ CellLess q p → Lower s q v → Lower s p v };
+    ghost lower_rises: { (s : Self) (p q v : Cell) → IsValue (class s) p → IsValue (class s) q
+        → IsValue (class s) v → ¬ CellLess q p → Lower s q v → Lower s p v };
 
     // nor does an upper one,
-    ghost upper_rises: { (s : Self) (p q v : Cell) → IsValue (class s) p → IsValue (class s) q → IsValue (class s) v
-        → ¬ CellLess q p → Upper s p v → Upper s q v };
+    ghost upper_rises: { (s : Self) (p q v : Cell) → IsValue (class s) p → IsValue (class s) q
+        → IsValue (class s) v → ¬ CellLess q p → Upper s p v → Upper s q v };
 
     // and what is below a child that meets an upper bound meets it too.
     ghost upper_holds_below: { (s : Self) (p v w : Cell) → IsValue (class s) p → IsValue (class s) v

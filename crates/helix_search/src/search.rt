@@ -175,8 +175,8 @@ fn ask_child<V: Choices, K: Link, L: Ledger>(
     requires asked { IsAsked V.class K.class (Stands K.Lower K.Upper K.Allowed) tree.now visit.now neighbour.now }
     requires candidate { IsValue (V.class visit.now.here.now.values) candidate.now }
     ensures verdict { IsVerdict (V.class visit.now.here.now.values)
-        (λ v. HasChild V.Has (Stands K.Lower K.Upper K.Allowed) tree.now (length rest.old) visit.now.node neighbour.now v)
-        candidate.now result bound.new }
+        (λ v. HasChild V.Has (Stands K.Lower K.Upper K.Allowed) tree.now (length rest.old) visit.now.node
+        neighbour.now v) candidate.now result bound.new }
     ensures counts { CountsGrow steps.old steps.new }
 {
     let parent = candidate.view();

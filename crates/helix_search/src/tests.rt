@@ -47,7 +47,8 @@ fn reverse(gap: Gap) -> Gap {
 
 /// Whether a neighbour is a node, as it is seen from both sides, and has a number if it is fixed.
 fn is_neighbour(tree: &Tree<'_, Span, Gap>, neighbour: &Neighbour<Gap>) -> bool
-    ensures { IsTrue result → IsSmallNeighbour (λ g. g.above) (λ g. g.below) (λ g. g.other) tree.now neighbour.now }
+    ensures { IsTrue result
+        → IsSmallNeighbour (λ g. g.above) (λ g. g.below) (λ g. g.other) tree.now neighbour.now }
 {
     let Some(other) = tree.nodes.get(neighbour.node) else {
         return false;
@@ -89,7 +90,8 @@ fn are_once(neighbours: &[Neighbour<Gap>]) -> bool
 
 /// Whether all neighbours of a node are as they should be.
 fn are_neighbours(tree: &Tree<'_, Span, Gap>, neighbours: &[Neighbour<Gap>]) -> bool
-    ensures { IsTrue result → All (IsSmallNeighbour (λ g. g.above) (λ g. g.below) (λ g. g.other) tree.now) neighbours.now }
+    ensures { IsTrue result
+        → All (IsSmallNeighbour (λ g. g.above) (λ g. g.below) (λ g. g.other) tree.now) neighbours.now }
 {
     for neighbour in neighbours {
         if !is_neighbour(tree, neighbour) {

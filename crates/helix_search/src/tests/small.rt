@@ -30,7 +30,8 @@ pub struct Gap {
 /// The least of the numbers from 0 to 255 that a mark admits.
 fn least_from(mark: Mark<'_>) -> Option<i128>
     requires { IsMarkOf numbers mark }
-    ensures some { IfSome result (λ from. (u : ℤ) → IsByte u → IsAdmitted mark.entry (cells.Number u) ↔ (from ≤ℤ u)) }
+    ensures some { IfSome result (λ from. (u : ℤ) → IsByte u
+        → IsAdmitted mark.entry (cells.Number u) ↔ (from ≤ℤ u)) }
     ensures none { IfNone result ((u : ℤ) → IsByte u → ¬ IsAdmitted mark.entry (cells.Number u)) }
 {
     match mark {

@@ -36,7 +36,8 @@ ask_child-returns-then-not-seek-clause-verdict g t c =
 
 pub ask_child-returns-in-Some-inverse-clause-verdict : goal.ask_child-returns-in-Some-inverse-clause-verdict
 ask_child-returns-in-Some-inverse-clause-verdict g t c =
-    asking.raises_inverse g.V.Choices.class g.K.Link.class g.V.Choices.Has g.K.Link.Lower g.K.Link.Upper g.K.Link.Allowed
+    asking.raises_inverse g.V.Choices.class g.K.Link.class g.V.Choices.Has g.K.Link.Lower g.K.Link.Upper
+    g.K.Link.Allowed
     g.met.V.Choices.within g.met.K.Link.lower_rises g.met.K.Link.upper_holds_below c.args.tree.now c.args.visit.now
     c.args.neighbour.now c.requires.asked (length c.args.rest.now) c.args.candidate.now c.requires.candidate _
     c.view-parent.ensures
@@ -59,8 +60,10 @@ ask_child-returns-in-None-clause-verdict g t c =
 
 pub ask_child-find_allowed-requires : goal.ask_child-find_allowed-requires
 ask_child-find_allowed-requires g t c κs within =
-    let first = subst (λ d. IsFirst (g.V.Choices.class c.args.visit.now.here.now.values) g.K.Link.Lower g.K.Link.Upper g.K.Link.Allowed
-    c.args.neighbour.now.down (ExtendsIn g.V.Choices.Has (Stands g.K.Link.Lower g.K.Link.Upper g.K.Link.Allowed) c.args.tree.now d (Some c.args.visit.now.node)
+    let first = subst (λ d. IsFirst (g.V.Choices.class c.args.visit.now.here.now.values) g.K.Link.Lower
+    g.K.Link.Upper g.K.Link.Allowed
+    c.args.neighbour.now.down (ExtendsIn g.V.Choices.Has (Stands g.K.Link.Lower g.K.Link.Upper g.K.Link.Allowed)
+    c.args.tree.now d (Some c.args.visit.now.node)
     c.args.neighbour.now.node) c.args.candidate.now (first_candidate c.seek.new.levels)) (sym c.seek.auto.levels)
     (asking.is_first g.V.Choices.class g.K.Link.class g.V.Choices.Has g.K.Link.Lower g.K.Link.Upper g.K.Link.Allowed
     g.met.V.Choices.within g.met.K.Link.lower_rises g.met.K.Link.upper_holds_below c.args.tree.now c.args.visit.now
@@ -80,7 +83,8 @@ ask_child-returns-clause-verdict g t c =
     c.args.neighbour.now c.requires.asked (length c.args.rest.now) c.args.candidate.now c.requires.candidate _
     c.view-parent.ensures c.set.new.self
     (c.set.ensures ∙ c.view-parent.ensures)
-    (subst (λ d. ¬ HasChild g.V.Choices.Has (Stands g.K.Link.Lower g.K.Link.Upper g.K.Link.Allowed) c.args.tree.now d c.args.visit.now.node c.args.neighbour.now
+    (subst (λ d. ¬ HasChild g.V.Choices.Has (Stands g.K.Link.Lower g.K.Link.Upper g.K.Link.Allowed) c.args.tree.now
+    d c.args.visit.now.node c.args.neighbour.now
     c.args.candidate.now) c.seek.auto.levels
     (asking.refused c.find_allowed.result c.if-find_allowed.false c.find_allowed.ensures.answer))
 
@@ -92,7 +96,8 @@ ask-returns-then-is_seen_from-clause-verdict g t c =
 
 pub ask-returns-then-neighbour-tree-clause-verdict : goal.ask-returns-then-neighbour-tree-clause-verdict
 ask-returns-then-neighbour-tree-clause-verdict g t c =
-    visiting.fixed_verdict g.V.Choices.class g.K.Link.class g.V.Choices.Has g.K.Link.Lower g.K.Link.Upper g.K.Link.Allowed
+    visiting.fixed_verdict g.V.Choices.class g.K.Link.class g.V.Choices.Has g.K.Link.Lower g.K.Link.Upper
+    g.K.Link.Allowed
     c.args.tree.now c.args.visit.now c.args.neighbour.now c.requires.asked (length c.args.rest.now) c.args.candidate.now
     c.requires.candidate (asking.refused c.is_seen_from.result c.if-is_seen_from.false c.is_seen_from.ensures)
     c.if-neighbour-tree.true _ _ c.fixed_cell-parent.ensures c.view.ensures c.ask_fixed.result c.ask_fixed.new.bound
@@ -100,14 +105,16 @@ ask-returns-then-neighbour-tree-clause-verdict g t c =
 
 pub ask-returns-clause-verdict : goal.ask-returns-clause-verdict
 ask-returns-clause-verdict g t c =
-    visiting.child_verdict g.V.Choices.class g.K.Link.class g.V.Choices.Has g.K.Link.Lower g.K.Link.Upper g.K.Link.Allowed
+    visiting.child_verdict g.V.Choices.class g.K.Link.class g.V.Choices.Has g.K.Link.Lower g.K.Link.Upper
+    g.K.Link.Allowed
     c.args.tree.now c.args.visit.now c.args.neighbour.now c.requires.asked (length c.args.rest.now) c.args.candidate.now
     c.requires.candidate (asking.refused c.is_seen_from.result c.if-is_seen_from.false c.is_seen_from.ensures)
     c.if-neighbour-tree.false c.ask_child.result c.ask_child.new.bound c.ask_child.ensures.verdict
 
 pub check-ask-requires : goal.check-ask-requires
 check-ask-requires g t c κs within =
-    let asked = visiting.asked_at g.V.Choices.class g.K.Link.class g.V.Choices.Has g.K.Link.Lower g.K.Link.Upper g.K.Link.Allowed
+    let asked = visiting.asked_at g.V.Choices.class g.K.Link.class g.V.Choices.Has g.K.Link.Lower g.K.Link.Upper
+    g.K.Link.Allowed
     c.args.tree.now c.args.visit.now c.as_slice-neighbour-items.result.now c.as_slice-neighbour-items.ensures
     c.loop-neighbour.neighbour-index c.neighbour-item.result c.loop-neighbour-test.true c.neighbour-item.is
     c.requires.nodes c.requires.fixed c.requires.visit in
@@ -116,22 +123,26 @@ check-ask-requires g t c κs within =
 pub check-returns-in_default : goal.check-returns-in_default
 check-returns-in_default g t c =
     record {
-      verdict = visiting.verdict_of_all g.V.Choices.class g.K.Link.class g.V.Choices.Has g.K.Link.Lower g.K.Link.Upper g.K.Link.Allowed
+      verdict = visiting.verdict_of_all g.V.Choices.class g.K.Link.class g.V.Choices.Has g.K.Link.Lower g.K.Link.Upper
+          g.K.Link.Allowed
           c.args.tree.now c.args.visit.now c.as_slice-neighbour-items.result.now c.as_slice-neighbour-items.ensures
           c.loop-neighbour.neighbour-index c.neighbour-item.result c.loop-neighbour-test.true c.neighbour-item.is
           (length c.args.rest.now) c.args.candidate.now c.ask.result c.ask.new.bound c.in_default.not-Stands
           (subst (λ d. IsVerdict (g.V.Choices.class c.args.visit.now.here.now.values)
-          (λ v. Needs g.V.Choices.Has (Stands g.K.Link.Lower g.K.Link.Upper g.K.Link.Allowed) c.args.tree.now d c.args.visit.now c.neighbour-item.result v)
+          (λ v. Needs g.V.Choices.Has (Stands g.K.Link.Lower g.K.Link.Upper g.K.Link.Allowed) c.args.tree.now d
+          c.args.visit.now c.neighbour-item.result v)
           c.args.candidate.now c.ask.result c.ask.new.bound) c.loop-neighbour.auto.rest c.ask.ensures.verdict);
       counts = grow_more _ _ _ c.loop-neighbour.invariant.1 c.ask.ensures.counts;
     }
 
 pub check-loop-neighbour-preserved : goal.check-loop-neighbour-preserved
 check-loop-neighbour-preserved g t c = (
-  within_more (λ n. Needs g.V.Choices.Has (Stands g.K.Link.Lower g.K.Link.Upper g.K.Link.Allowed) c.args.tree.now (length c.args.rest.now) c.args.visit.now n
+  within_more (λ n. Needs g.V.Choices.Has (Stands g.K.Link.Lower g.K.Link.Upper g.K.Link.Allowed) c.args.tree.now
+      (length c.args.rest.now) c.args.visit.now n
       c.args.candidate.now) c.as_slice-neighbour-items.result.now
       c.loop-neighbour.neighbour-index c.neighbour-item.result c.loop-neighbour-test.true c.neighbour-item.is
-      (subst (λ d. Needs g.V.Choices.Has (Stands g.K.Link.Lower g.K.Link.Upper g.K.Link.Allowed) c.args.tree.now d c.args.visit.now c.neighbour-item.result
+      (subst (λ d. Needs g.V.Choices.Has (Stands g.K.Link.Lower g.K.Link.Upper g.K.Link.Allowed) c.args.tree.now d
+      c.args.visit.now c.neighbour-item.result
       c.args.candidate.now) c.loop-neighbour.auto.rest c.in-Stands.ensures.verdict)
       c.loop-neighbour.invariant.0,
   grow_more _ _ _ c.loop-neighbour.invariant.1 c.in-Stands.ensures.counts,
@@ -145,11 +156,13 @@ find_allowed-excludes-requires-clause-child g t c =
     (first_candidate c.loop-mark.rest) c.first_candidate.ensures
     (asking.child_within g.V.Choices.class g.K.Link.class g.V.Choices.Has g.K.Link.Lower g.K.Link.Upper g.K.Link.Allowed
     g.met.V.Choices.within g.met.K.Link.lower_rises g.met.K.Link.upper_holds_below c.args.tree.now c.args.visit.now
-    c.args.neighbour.now c.requires.asked (length c.args.rest.now) (first_candidate c.loop-mark.rest) c.loop-mark.invariant.0.is)
+    c.args.neighbour.now c.requires.asked (length c.args.rest.now) (first_candidate c.loop-mark.rest)
+    c.loop-mark.invariant.0.is)
 
 pub find_allowed-returns-in-No-clause-answer : goal.find_allowed-returns-in-No-clause-answer
 find_allowed-returns-in-No-clause-answer g t c = (
-  (λ _. asking.first_stands g.V.Choices.class g.K.Link.class g.V.Choices.Has g.K.Link.Lower g.K.Link.Upper g.K.Link.Allowed
+  (λ _. asking.first_stands g.V.Choices.class g.K.Link.class g.V.Choices.Has g.K.Link.Lower g.K.Link.Upper
+      g.K.Link.Allowed
       g.met.V.Choices.within g.met.K.Link.lower_rises g.met.K.Link.upper_holds_below c.args.tree.now c.args.visit.now
       c.args.neighbour.now c.requires.asked (length c.args.rest.now) c.args.candidate.now c.requires.candidate _
       c.view-parent.ensures (first_candidate c.loop-mark.rest) c.loop-mark.invariant.0 _ c.first_candidate.ensures
@@ -159,7 +172,8 @@ find_allowed-returns-in-No-clause-answer g t c = (
 
 pub find_allowed-returns-in-Rest-clause-answer : goal.find_allowed-returns-in-Rest-clause-answer
 find_allowed-returns-in-Rest-clause-answer g t c =
-    asking.never (asking.none_in_rest g.V.Choices.class g.K.Link.class g.V.Choices.Has g.K.Link.Lower g.K.Link.Upper g.K.Link.Allowed
+    asking.never (asking.none_in_rest g.V.Choices.class g.K.Link.class g.V.Choices.Has g.K.Link.Lower g.K.Link.Upper
+    g.K.Link.Allowed
     g.met.V.Choices.within g.met.K.Link.lower_rises g.met.K.Link.upper_holds_below c.args.tree.now c.args.visit.now
     c.args.neighbour.now c.requires.asked (length c.args.rest.now) c.args.candidate.now c.requires.candidate _
     c.view-parent.ensures (first_candidate c.loop-mark.rest) c.loop-mark.invariant.0 _ c.first_candidate.ensures
@@ -167,13 +181,15 @@ find_allowed-returns-in-Rest-clause-answer g t c =
 
 pub find_allowed-returns-then-not-seek-clause-answer : goal.find_allowed-returns-then-not-seek-clause-answer
 find_allowed-returns-then-not-seek-clause-answer g t c =
-    asking.never (asking.none_left g.V.Choices.class g.K.Link.class g.V.Choices.Has g.K.Link.Lower g.K.Link.Upper g.K.Link.Allowed
+    asking.never (asking.none_left g.V.Choices.class g.K.Link.class g.V.Choices.Has g.K.Link.Lower g.K.Link.Upper
+    g.K.Link.Allowed
     g.met.V.Choices.within g.met.K.Link.lower_rises g.met.K.Link.upper_holds_below c.args.tree.now c.args.visit.now
     c.args.neighbour.now c.requires.asked (length c.args.rest.now) c.args.candidate.now c.requires.candidate _
     c.view-parent.ensures c.in-Until.mark c.kept.result c.keep-side.result c.keep-side.new.bound c.keep-side.ensures
     c.kept.ensures
     (first_candidate c.loop-mark.rest) c.loop-mark.invariant.0 _ c.first_candidate.ensures c.in-Until.ensures
-    (subst (λ d. (w : _) → (ExtendsIn g.V.Choices.Has (Stands g.K.Link.Lower g.K.Link.Upper g.K.Link.Allowed) c.args.tree.now d
+    (subst (λ d. (w : _) → (ExtendsIn g.V.Choices.Has (Stands g.K.Link.Lower g.K.Link.Upper g.K.Link.Allowed)
+    c.args.tree.now d
     (Some c.args.visit.now.node) c.args.neighbour.now.node) w → ¬ IsAdmitted c.kept.result w) c.loop-mark.auto.rest
     c.if-not-seek.ensures.answer))
 
@@ -191,13 +207,16 @@ find_allowed-passes_upper-requires-clause-child g t c =
 
 pub find_allowed-returns-then-not-passes_upper-clause-answer : goal.find_allowed-returns-then-not-passes_upper-clause-answer
 find_allowed-returns-then-not-passes_upper-clause-answer g t c =
-    asking.never (asking.none_past_upper g.V.Choices.class g.K.Link.class g.V.Choices.Has g.K.Link.Lower g.K.Link.Upper g.K.Link.Allowed
+    asking.never (asking.none_past_upper g.V.Choices.class g.K.Link.class g.V.Choices.Has g.K.Link.Lower
+    g.K.Link.Upper g.K.Link.Allowed
     g.met.V.Choices.within g.met.K.Link.lower_rises g.met.K.Link.upper_holds_below c.args.tree.now c.args.visit.now
     c.args.neighbour.now c.requires.asked (length c.args.rest.now) c.args.candidate.now c.requires.candidate _
     c.view-parent.ensures c.in-Until.mark c.kept.result c.keep-side.result c.keep-side.new.bound c.keep-side.ensures
     c.kept.ensures
-    (first_candidate c.loop-mark.rest) c.loop-mark.invariant.0 _ c.first_candidate.ensures c.in-Until.ensures (first_candidate c.seek.new.levels)
-    (subst (λ d. IsLeastAdmitted (ExtendsIn g.V.Choices.Has (Stands g.K.Link.Lower g.K.Link.Upper g.K.Link.Allowed) c.args.tree.now d
+    (first_candidate c.loop-mark.rest) c.loop-mark.invariant.0 _ c.first_candidate.ensures c.in-Until.ensures
+    (first_candidate c.seek.new.levels)
+    (subst (λ d. IsLeastAdmitted (ExtendsIn g.V.Choices.Has (Stands g.K.Link.Lower g.K.Link.Upper g.K.Link.Allowed)
+    c.args.tree.now d
     (Some c.args.visit.now.node) c.args.neighbour.now.node) c.kept.result
     (first_candidate c.seek.new.levels)) c.loop-mark.auto.rest c.if-not-seek.ensures.answer)
     _ c.first_candidate-in-loop-mark.ensures
@@ -210,8 +229,10 @@ find_allowed-loop-mark-smaller g t c =
     c.args.neighbour.now c.requires.asked (length c.args.rest.now) c.args.candidate.now c.requires.candidate _
     c.view-parent.ensures c.in-Until.mark c.kept.result c.keep-side.result c.keep-side.new.bound c.keep-side.ensures
     c.kept.ensures
-    (first_candidate c.loop-mark.rest) c.loop-mark.invariant.0 _ c.first_candidate.ensures c.in-Until.ensures (first_candidate c.seek.new.levels)
-    (subst (λ d. IsLeastAdmitted (ExtendsIn g.V.Choices.Has (Stands g.K.Link.Lower g.K.Link.Upper g.K.Link.Allowed) c.args.tree.now d
+    (first_candidate c.loop-mark.rest) c.loop-mark.invariant.0 _ c.first_candidate.ensures c.in-Until.ensures
+    (first_candidate c.seek.new.levels)
+    (subst (λ d. IsLeastAdmitted (ExtendsIn g.V.Choices.Has (Stands g.K.Link.Lower g.K.Link.Upper g.K.Link.Allowed)
+    c.args.tree.now d
     (Some c.args.visit.now.node) c.args.neighbour.now.node) c.kept.result
     (first_candidate c.seek.new.levels)) c.loop-mark.auto.rest c.if-not-seek.ensures.answer)
 
@@ -222,8 +243,10 @@ find_allowed-loop-mark-preserved g t c = (
       c.args.neighbour.now c.requires.asked (length c.args.rest.now) c.args.candidate.now c.requires.candidate _
       c.view-parent.ensures c.in-Until.mark c.kept.result c.keep-side.result c.keep-side.new.bound c.keep-side.ensures
       c.kept.ensures
-      (first_candidate c.loop-mark.rest) c.loop-mark.invariant.0 _ c.first_candidate.ensures c.in-Until.ensures (first_candidate c.seek.new.levels)
-      (subst (λ d. IsLeastAdmitted (ExtendsIn g.V.Choices.Has (Stands g.K.Link.Lower g.K.Link.Upper g.K.Link.Allowed) c.args.tree.now d
+      (first_candidate c.loop-mark.rest) c.loop-mark.invariant.0 _ c.first_candidate.ensures c.in-Until.ensures
+      (first_candidate c.seek.new.levels)
+      (subst (λ d. IsLeastAdmitted (ExtendsIn g.V.Choices.Has (Stands g.K.Link.Lower g.K.Link.Upper g.K.Link.Allowed)
+      c.args.tree.now d
       (Some c.args.visit.now.node) c.args.neighbour.now.node) c.kept.result
       (first_candidate c.seek.new.levels)) c.loop-mark.auto.rest c.if-not-seek.ensures.answer)
       _ c.first_candidate-in-loop-mark.ensures (c.passes_upper.ensures.0 c.if-not-passes_upper.false),
@@ -236,14 +259,17 @@ seek-returns-clause-answer g t c =
     g.K.Link.Allowed c.args.tree.now (record { node = c.args.node; here = c.in-Some-get.here; from = c.args.from })
     c.requires.nodes
     (slice_get_read c.args.tree.now.nodes.now (length c.args.tree.now.nodes.now) c.args.node c.in-Some-get.here.now
-    refl c.in-Some-get.ensures.lookup.3.0 c.in-Some-get.ensures.lookup.1) c.args.mark c.settle.result (length c.in-Some.rest.now)
+    refl c.in-Some-get.ensures.lookup.3.0 c.in-Some-get.ensures.lookup.1) c.args.mark c.settle.result (length
+    c.in-Some.rest.now)
     (length c.args.levels.now) c.settle.new.level.candidate (omega (arith, c.in-Some.ensures.cases.1))
     c.settle.ensures.answer
 
 pub settle-returns-in-Stands-clause-answer : goal.settle-returns-in-Stands-clause-answer
 settle-returns-in-Stands-clause-answer g t c =
-    settling.stands (g.V.Choices.class c.args.visit.now.here.now.values) (g.V.Choices.Has c.args.visit.now.here.now.values)
-    (λ v. StandsAll g.V.Choices.Has (Stands g.K.Link.Lower g.K.Link.Upper g.K.Link.Allowed) c.args.tree.now (length c.args.rest.now)
+    settling.stands (g.V.Choices.class c.args.visit.now.here.now.values) (g.V.Choices.Has
+    c.args.visit.now.here.now.values)
+    (λ v. StandsAll g.V.Choices.Has (Stands g.K.Link.Lower g.K.Link.Upper g.K.Link.Allowed) c.args.tree.now (length
+    c.args.rest.now)
     c.args.visit.now v)
     (g.met.V.Choices.within c.args.visit.now.here.now.values) c.args.mark c.loop-found.level.candidate
     (MatchBool-at_true _ _ c.loop-found-test.true c.loop-found.invariant.0)
@@ -252,19 +278,24 @@ settle-returns-in-Stands-clause-answer g t c =
 
 pub settle-returns-in-Fails-clause-answer : goal.settle-returns-in-Fails-clause-answer
 settle-returns-in-Fails-clause-answer g t c =
-    settling.fails (g.V.Choices.class c.args.visit.now.here.now.values) (g.V.Choices.Has c.args.visit.now.here.now.values)
-    (λ v. StandsAll g.V.Choices.Has (Stands g.K.Link.Lower g.K.Link.Upper g.K.Link.Allowed) c.args.tree.now (length c.args.rest.now)
+    settling.fails (g.V.Choices.class c.args.visit.now.here.now.values) (g.V.Choices.Has
+    c.args.visit.now.here.now.values)
+    (λ v. StandsAll g.V.Choices.Has (Stands g.K.Link.Lower g.K.Link.Upper g.K.Link.Allowed) c.args.tree.now (length
+    c.args.rest.now)
     c.args.visit.now v)
     (g.met.V.Choices.within c.args.visit.now.here.now.values) c.args.mark c.loop-found.level.candidate
     (MatchBool-at_true _ _ c.loop-found-test.true c.loop-found.invariant.0)
-    (subst (λ d. (q : _) → IsValue (g.V.Choices.class c.args.visit.now.here.now.values) q → ¬ CellLess q c.loop-found.level.candidate
+    (subst (λ d. (q : _) → IsValue (g.V.Choices.class c.args.visit.now.here.now.values) q → ¬ CellLess q
+    c.loop-found.level.candidate
     → ¬ StandsAll g.V.Choices.Has (Stands g.K.Link.Lower g.K.Link.Upper g.K.Link.Allowed) c.args.tree.now d
     c.args.visit.now q) c.loop-found.auto.rest c.in-Fails.ensures.verdict)
 
 pub settle-loop-found-smaller : goal.settle-loop-found-smaller
 settle-loop-found-smaller g t c =
-    settling.falls (g.V.Choices.class c.args.visit.now.here.now.values) (g.V.Choices.Has c.args.visit.now.here.now.values)
-    (λ v. StandsAll g.V.Choices.Has (Stands g.K.Link.Lower g.K.Link.Upper g.K.Link.Allowed) c.args.tree.now (length c.args.rest.now)
+    settling.falls (g.V.Choices.class c.args.visit.now.here.now.values) (g.V.Choices.Has
+    c.args.visit.now.here.now.values)
+    (λ v. StandsAll g.V.Choices.Has (Stands g.K.Link.Lower g.K.Link.Upper g.K.Link.Allowed) c.args.tree.now (length
+    c.args.rest.now)
     c.args.visit.now v)
     (g.met.V.Choices.within c.args.visit.now.here.now.values) c.args.mark c.loop-found.level.candidate
     (MatchBool-at_true _ _ c.loop-found-test.true c.loop-found.invariant.0) c.in-Raise.side c.check.new.bound
@@ -277,8 +308,10 @@ settle-loop-found-smaller g t c =
 
 pub settle-loop-found-preserved : goal.settle-loop-found-preserved
 settle-loop-found-preserved g t c = (
-  settling.goes_on (g.V.Choices.class c.args.visit.now.here.now.values) (g.V.Choices.Has c.args.visit.now.here.now.values)
-      (λ v. StandsAll g.V.Choices.Has (Stands g.K.Link.Lower g.K.Link.Upper g.K.Link.Allowed) c.args.tree.now (length c.args.rest.now)
+  settling.goes_on (g.V.Choices.class c.args.visit.now.here.now.values) (g.V.Choices.Has
+      c.args.visit.now.here.now.values)
+      (λ v. StandsAll g.V.Choices.Has (Stands g.K.Link.Lower g.K.Link.Upper g.K.Link.Allowed) c.args.tree.now (length
+      c.args.rest.now)
       c.args.visit.now v)
       (g.met.V.Choices.within c.args.visit.now.here.now.values) c.args.mark c.loop-found.level.candidate
       (MatchBool-at_true _ _ c.loop-found-test.true c.loop-found.invariant.0) c.in-Raise.side c.check.new.bound
