@@ -10,40 +10,9 @@ mod small;
 use crate::{Level, Neighbour, Neighbours, Node, Tree, least};
 use helix_base::{Memory, Quiet, Steps};
 use helix_values::{CellRef, Kind, Mark, RowBuf, in_universe};
-use small::{Gap, Span};
+use small::{Gap, OTHER, Span, above, below, reverse};
 use std::alloc::Global;
 use std::test::Fail;
-
-fn above(by: u8) -> Gap {
-    Gap {
-        above: Some(by),
-        below: None,
-        other: false,
-    }
-}
-
-fn below(by: u8) -> Gap {
-    Gap {
-        above: None,
-        below: Some(by),
-        other: false,
-    }
-}
-
-const OTHER: Gap = Gap {
-    above: None,
-    below: None,
-    other: true,
-};
-
-/// The gap that says the same with parent and child exchanged.
-fn reverse(gap: Gap) -> Gap {
-    Gap {
-        above: gap.below,
-        below: gap.above,
-        other: gap.other,
-    }
-}
 
 /// Whether a neighbour is a node, as it is seen from both sides, and has a number if it is fixed.
 fn is_neighbour(tree: &Tree<'_, Span, Gap>, neighbour: &Neighbour<Gap>) -> bool

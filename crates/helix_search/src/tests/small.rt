@@ -27,6 +27,40 @@ pub struct Gap {
     pub other: bool,
 }
 
+/// A child that is more than so much above its parent.
+pub fn above(by: u8) -> Gap {
+    Gap {
+        above: Some(by),
+        below: None,
+        other: false,
+    }
+}
+
+/// A child that is more than so much below it.
+pub fn below(by: u8) -> Gap {
+    Gap {
+        above: None,
+        below: Some(by),
+        other: false,
+    }
+}
+
+/// A child that is another number.
+pub const OTHER: Gap = Gap {
+    above: None,
+    below: None,
+    other: true,
+};
+
+/// The gap that says the same with parent and child exchanged.
+pub fn reverse(gap: Gap) -> Gap {
+    Gap {
+        above: gap.below,
+        below: gap.above,
+        other: gap.other,
+    }
+}
+
 /// The least of the numbers from 0 to 255 that a mark admits.
 fn least_from(mark: Mark<'_>) -> Option<i128>
     requires { IsMarkOf numbers mark }
