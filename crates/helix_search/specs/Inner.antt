@@ -1,0 +1,4 @@
+pub mod Kept
+pub mod Asked
+pub mod Small
+pub mod SmallLaws
