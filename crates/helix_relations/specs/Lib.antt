@@ -1,0 +1,8 @@
+-- What the public clauses rest on.
+pub mod Extending
+pub mod Rows
+-- Lemmas for proofs here and above.
+pub mod Bridges
+pub mod TrailLaws
+pub mod MergingLaws
+pub mod ExtendingLaws

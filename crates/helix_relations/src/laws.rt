@@ -1,0 +1,25 @@
+//! Laws of cells that extend over trees, each the contract of a function that does nothing.
+
+ghost use Rattle.std.specs.Prelude.{◌≡◌, ◌<◌, ◌↔◌, ℕ, List, Option, None};
+ghost use Rattle.helix_values.specs.declared.cell.Cell.{Cell};
+ghost use Rattle.helix_profile.specs.declared.relation.Relation.{Relation};
+ghost use Rattle.helix_relations.specs.Extending.{Extends};
+ghost use Rattle.helix_relations.specs.Rows.{IsForestOf, IsGoodRow, HasFixed, IsInSomeRow, IsFirstOfTree};
+
+use crate::graph::HasGraph;
+
+/// Where there is a good row with the fixed cells, the cells of another node that extend are those of such rows.
+pub fn extending_is_exact<G: HasGraph>()
+    ensures { (nodes : G) (relations : List Relation) (count : ℕ) → IsForestOf (G.graph nodes) relations count
+        → (fixed : ℕ → Option Cell) (row : ℕ → Cell) → IsGoodRow (G.graph nodes) count row → HasFixed fixed row
+        → (u : ℕ) (v : Cell) → u < count → fixed u ≡ None
+        → Extends (G.graph nodes) fixed count None u v ↔ IsInSomeRow (G.graph nodes) count fixed u v }
+{}
+
+/// There is a good row exactly where some cell of the first node of each tree extends.
+pub fn trees_have_rows<G: HasGraph>()
+    ensures { (nodes : G) (relations : List Relation) (count : ℕ) → IsForestOf (G.graph nodes) relations count
+        → ((u : ℕ) → u < count → IsFirstOfTree relations u
+        → (v : Cell) × Extends (G.graph nodes) (λ other. None) count None u v)
+        ↔ ((row : ℕ → Cell) × IsGoodRow (G.graph nodes) count row) }
+{}

@@ -1,0 +1,7 @@
+//! Related fields.
+#![tactic(auto)]
+
+mod graph;
+pub mod laws;
+
+pub use graph::HasGraph;
