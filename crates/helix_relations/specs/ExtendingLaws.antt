@@ -8,12 +8,14 @@ use Rattle.helix_profile.specs.Forest.{AreJoined, IsPathTo}
 use Rattle.helix_relations.specs.Extending.{Graph, Extends}
 use Rattle.helix_relations.specs.Rows.{IsForestOf, IsGoodRow, HasFixed, IsInSomeRow, IsFirstOfTree}
 use Rattle.helix_relations.specs.TrailLaws.{ArePlaced, placed, row_extends}
-use Rattle.helix_relations.specs.MergingLaws.{Setting, IsRow, AllStand, whole_row}
+use Rattle.helix_relations.specs.MixingLaws.{Setting, IsRow, AllStand}
+use Rattle.helix_relations.specs.MergingLaws.{whole_row}
 
 none_some : {A : Type 0} (x : A) → None ≡ Some x → ⊥
 none_some x e = true≢false (sym (ap is_some e))
 
-module _ (graph : Graph) (rs : List Relation) (nodes : ℕ) (is : IsForestOf graph rs nodes) where
+module _ (graph : Graph) (rs : List Relation) (nodes : ℕ) (is : IsForestOf graph rs nodes) (depth : ℕ)
+    (enough : nodes ≤ depth) where
   all_joined : (row : ℕ → Cell) → IsGoodRow graph nodes row → (x y : ℕ) → AreJoined rs x y
       → graph.Joined x y (row x) (row y)
   all_joined row good x y joined = let at : ArePlaced nodes x y = placed nodes rs is.ends x y joined in
@@ -38,9 +40,9 @@ module _ (graph : Graph) (rs : List Relation) (nodes : ℕ) (is : IsForestOf gra
     }
 
     row_of_cell : (row : ℕ → Cell) → IsGoodRow graph nodes row → HasFixed fixed row → (u : ℕ) (v : Cell) → u < nodes
-        → fixed u ≡ None → Extends graph fixed nodes None u v → IsInSomeRow graph nodes fixed u v
+        → fixed u ≡ None → Extends graph fixed depth None u v → IsInSomeRow graph nodes fixed u v
     row_of_cell row good has_fixed u v below free extends =
-        let found = whole_row cells row (record { has = good.has; fixes = has_fixed }) (all_joined row good) nodes u v
+        let found = whole_row cells row (record { has = good.has; fixes = has_fixed }) (all_joined row good) depth u v
         below free extends in
         record {
           row = found.0;
@@ -52,13 +54,13 @@ module _ (graph : Graph) (rs : List Relation) (nodes : ℕ) (is : IsForestOf gra
           is = found.3;
         }
 
-    cell_of_row : (u : ℕ) (v : Cell) → u < nodes → IsInSomeRow graph nodes fixed u v → Extends graph fixed nodes None u v
-    cell_of_row u v below some = subst (λ w. Extends graph fixed nodes None u w) some.is
-        (row_extends graph rs nodes is fixed some.row some.good some.has_fixed u below)
+    cell_of_row : (u : ℕ) (v : Cell) → u < nodes → IsInSomeRow graph nodes fixed u v → Extends graph fixed depth None u v
+    cell_of_row u v below some = subst (λ w. Extends graph fixed depth None u w) some.is
+        (row_extends graph rs nodes is fixed some.row some.good some.has_fixed depth enough u below)
 
     -- where there is a good row with the fixed cells, the cells that extend are those of such rows
     pub extending_is_exact : (row : ℕ → Cell) → IsGoodRow graph nodes row → HasFixed fixed row → (u : ℕ) (v : Cell)
-        → u < nodes → fixed u ≡ None → Extends graph fixed nodes None u v ↔ IsInSomeRow graph nodes fixed u v
+        → u < nodes → fixed u ≡ None → Extends graph fixed depth None u v ↔ IsInSomeRow graph nodes fixed u v
     extending_is_exact row good has_fixed u v below free = (
       (λ extends. row_of_cell row good has_fixed u v below free extends),
       (λ some. cell_of_row u v below some),
@@ -149,7 +151,7 @@ module _ (graph : Graph) (rs : List Relation) (nodes : ℕ) (is : IsForestOf gra
     given : (x : ℕ) → x < k → IsGiven (row x)
 
   abbrev FirstsExtend : Type 0
-  FirstsExtend = (u : ℕ) → u < nodes → IsFirstOfTree rs u → (v : Cell) × Extends graph nothing_fixed nodes None u v
+  FirstsExtend = (u : ℕ) → u < nodes → IsFirstOfTree rs u → (v : Cell) × Extends graph nothing_fixed depth None u v
 
   one_more : (row : ℕ → Option Cell) (k : ℕ) → k < nodes → IsUpTo k row → (o : Option Cell) → row k ≡ o → FirstsExtend
       → (new : ℕ → Option Cell) × IsUpTo (suc k) new
@@ -166,7 +168,7 @@ module _ (graph : Graph) (rs : List Relation) (nodes : ℕ) (is : IsForestOf gra
       let first : IsFirstOfTree rs k = λ x x_in link. subst IsGiven is_none
       (given_along row up_to.all link.0 k x link.1 (up_to.given x x_in)) in
       let start = firsts k below first in
-      let tree = whole_row partial row up_to.is_row up_to.all nodes k start.0 below refl start.1 in (
+      let tree = whole_row partial row up_to.is_row up_to.all depth k start.0 below refl start.1 in (
         (λ x. either (row x) (tree.0 x)),
         record {
           is_row = record {
@@ -222,11 +224,11 @@ module _ (graph : Graph) (rs : List Relation) (nodes : ℕ) (is : IsForestOf gra
   firsts_of : (row : ℕ → Cell) × IsGoodRow graph nodes row → FirstsExtend
   firsts_of good u below first = (
     good.0 u,
-    row_extends graph rs nodes is nothing_fixed good.0 good.1 (λ x w e. absurd (none_some w e)) u below,
+    row_extends graph rs nodes is nothing_fixed good.0 good.1 (λ x w e. absurd (none_some w e)) depth enough u below,
   )
 
   -- there is a good row exactly where some cell of the first node of each tree extends
   pub trees_have_rows : ((u : ℕ) → u < nodes → IsFirstOfTree rs u
-      → (v : Cell) × Extends graph (λ x. None) nodes None u v)
+      → (v : Cell) × Extends graph (λ x. None) depth None u v)
       ↔ ((row : ℕ → Cell) × IsGoodRow graph nodes row)
   trees_have_rows = (whole_of, firsts_of)

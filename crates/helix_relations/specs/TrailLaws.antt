@@ -1,5 +1,5 @@
 -- A way along different nodes of a forest never comes back, and so each cell of a good row extends. Lemmas.
-use Rattle.std.proofs.Common.{◌≡◌, ◌≢◌, ℕ, zero, suc, ◌+◌, ◌<◌, true, false, eqb, inl, inr, ⊎_elim, List, [], ◌∷◌, length, Option, None, Some, All, refl, sym, ap, ◌∙◌, subst, arith}
+use Rattle.std.proofs.Common.{◌≡◌, ◌≢◌, ℕ, zero, suc, ◌+◌, ◌<◌, ◌≤◌, true, false, eqb, inl, inr, ⊎_elim, List, [], ◌∷◌, length, Option, None, Some, All, refl, sym, ap, ◌∙◌, subst, arith}
 use Rattle.std.proofs.lemmas.Bool.{ne_eqb, eqb-true, or_cases, true≢false}
 use Rattle.std.proofs.lemmas.Map.Steps.{length-le_from_distinct_below}
 use Rattle.std.specs.List.{AllByRecursion, IsDistinct, list_any}
@@ -134,7 +134,7 @@ module _ (graph : Graph) (rs : List Relation) (nodes : ℕ) (is : IsForestOf gra
   partner (Some w) c Joined Extended is_fixed joined extended = subst Joined (has_fixed c w is_fixed) joined
   partner None c Joined Extended is_fixed joined extended = (row c, extended refl, joined)
 
-  along : (depth : ℕ) (trail : List ℕ) (u : ℕ) → depth + length trail ≡ nodes → AreChained rs u trail
+  along : (depth : ℕ) (trail : List ℕ) (u : ℕ) → nodes ≤ depth + length trail → AreChained rs u trail
       → AreDifferent (u ∷ trail) → AllByRecursion (λ x. x < nodes) (u ∷ trail)
       → Extends graph fixed depth (before trail) u (row u)
   along zero trail u count chain different below =
@@ -153,5 +153,5 @@ module _ (graph : Graph) (rs : List Relation) (nodes : ℕ) (is : IsForestOf gra
         (look c trail)),
   )
 
-  pub row_extends : (u : ℕ) → u < nodes → Extends graph fixed nodes None u (row u)
-  row_extends u below = along nodes [] u (omega arith) tt (tt, tt) (below, tt)
+  pub row_extends : (depth : ℕ) → nodes ≤ depth → (u : ℕ) → u < nodes → Extends graph fixed depth None u (row u)
+  row_extends depth enough u below = along depth [] u (omega arith) tt (tt, tt) (below, tt)

@@ -1,6 +1,6 @@
 //! Laws of cells that extend over trees, each the contract of a function that does nothing.
 
-ghost use Rattle.std.specs.Prelude.{◌≡◌, ◌<◌, ◌↔◌, ℕ, List, Option, None};
+ghost use Rattle.std.specs.Prelude.{◌≡◌, ◌<◌, ◌≤◌, ◌↔◌, ℕ, List, Option, None};
 ghost use Rattle.helix_values.specs.declared.cell.Cell.{Cell};
 ghost use Rattle.helix_profile.specs.declared.relation.Relation.{Relation};
 ghost use Rattle.helix_relations.specs.Extending.{Extends};
@@ -12,14 +12,14 @@ use crate::graph::HasGraph;
 pub fn extending_is_exact<G: HasGraph>()
     ensures { (nodes : G) (relations : List Relation) (count : ℕ) → IsForestOf (G.graph nodes) relations count
         → (fixed : ℕ → Option Cell) (row : ℕ → Cell) → IsGoodRow (G.graph nodes) count row → HasFixed fixed row
-        → (u : ℕ) (v : Cell) → u < count → fixed u ≡ None
-        → Extends (G.graph nodes) fixed count None u v ↔ IsInSomeRow (G.graph nodes) count fixed u v }
+        → (depth : ℕ) → count ≤ depth → (u : ℕ) (v : Cell) → u < count → fixed u ≡ None
+        → Extends (G.graph nodes) fixed depth None u v ↔ IsInSomeRow (G.graph nodes) count fixed u v }
 {}
 
 /// There is a good row exactly where some cell of the first node of each tree extends.
 pub fn trees_have_rows<G: HasGraph>()
     ensures { (nodes : G) (relations : List Relation) (count : ℕ) → IsForestOf (G.graph nodes) relations count
-        → ((u : ℕ) → u < count → IsFirstOfTree relations u
-        → (v : Cell) × Extends (G.graph nodes) (λ other. None) count None u v)
+        → (depth : ℕ) → count ≤ depth → ((u : ℕ) → u < count → IsFirstOfTree relations u
+        → (v : Cell) × Extends (G.graph nodes) (λ other. None) depth None u v)
         ↔ ((row : ℕ → Cell) × IsGoodRow (G.graph nodes) count row) }
 {}
