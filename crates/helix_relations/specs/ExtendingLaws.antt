@@ -5,7 +5,7 @@ use Rattle.helix_values.specs.declared.cell.Cell.{Cell}
 use Rattle.helix_values.specs.declared.cell.Cell.TheVariants.{Null}
 use Rattle.helix_profile.specs.declared.relation.Relation.{Relation}
 use Rattle.helix_profile.specs.Forest.{AreJoined, IsPathTo}
-use Rattle.helix_relations.specs.Extending.{Graph, Extends}
+use Rattle.helix_search.specs.Extending.{Graph, Extends}
 use Rattle.helix_relations.specs.Rows.{IsForestOf, IsGoodRow, HasFixed, IsInSomeRow, IsFirstOfTree}
 use Rattle.helix_relations.specs.TrailLaws.{ArePlaced, placed, row_extends}
 use Rattle.helix_relations.specs.MixingLaws.{Setting, IsRow, AllStand}

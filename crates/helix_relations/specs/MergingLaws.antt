@@ -8,7 +8,7 @@ use Rattle.std.proofs.lemmas.Option.{same_Some}
 use Rattle.helix_values.specs.declared.cell.Cell.{Cell}
 use Rattle.helix_profile.specs.Forest.{AreJoined}
 use Rattle.helix_forest.specs.Joins.{joined_back}
-use Rattle.helix_relations.specs.Extending.{HasPartner, Extends}
+use Rattle.helix_search.specs.Extending.{HasPartner, Extends}
 use Rattle.helix_relations.specs.Bridges.{bridge}
 use Rattle.helix_relations.specs.MixingLaws.{Setting, IsRow, Stands, AllStand, IsAround, none_some, place, stands_back, fewer, Beyond, branch_stands, IsWith, mixed, with_branch}
 

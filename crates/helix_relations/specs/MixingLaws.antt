@@ -7,7 +7,7 @@ use Rattle.helix_values.specs.declared.cell.Cell.{Cell}
 use Rattle.helix_profile.specs.declared.relation.Relation.{Relation}
 use Rattle.helix_profile.specs.Forest.{AreJoined}
 use Rattle.helix_forest.specs.Joins.{joined_back}
-use Rattle.helix_relations.specs.Extending.{Graph}
+use Rattle.helix_search.specs.Extending.{Graph}
 use Rattle.helix_relations.specs.Rows.{IsForestOf}
 use Rattle.helix_relations.specs.Bridges.{IsBridge}
 use Rattle.helix_relations.specs.TrailLaws.{ArePlaced, placed}

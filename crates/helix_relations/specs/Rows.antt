@@ -5,7 +5,7 @@ use Rattle.helix_values.specs.declared.cell.Cell.{Cell}
 use Rattle.helix_profile.specs.declared.relation.Relation.{Relation}
 use Rattle.helix_profile.specs.Forest.{AreJoined, IsForest}
 use Rattle.helix_forest.specs.Closing.{HasEndsBelow, AreLinked}
-use Rattle.helix_relations.specs.Extending.{Graph}
+use Rattle.helix_search.specs.Extending.{Graph}
 
 -- The relations are a forest of so many nodes, the neighbours of a node are those that relations join with it, and
 -- cells that stand the links of a pair stand them from its other end too.

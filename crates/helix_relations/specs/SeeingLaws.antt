@@ -1,7 +1,7 @@
 -- Whether a cell extends depends only on the nodes that are seen from its node. Lemmas.
 use Rattle.std.proofs.Common.{◌≡◌, ℕ, zero, suc, Option, None, Some, Contains, refl}
 use Rattle.helix_values.specs.declared.cell.Cell.{Cell}
-use Rattle.helix_relations.specs.Extending.{Graph, HasPartner, Extends}
+use Rattle.helix_search.specs.Extending.{Graph, HasPartner, Extends}
 
 -- From one graph to another one: the nodes of a set, which has the neighbours of each of them, have no fewer cells, and
 -- no fewer cells stand together.

@@ -9,7 +9,7 @@ use Rattle.helix_profile.specs.Forest.{AreJoined, IsPathTo, AreDifferent, IsCycl
 use Rattle.helix_forest.specs.Closing.{HasEndsBelow}
 use Rattle.helix_forest.specs.Joins.{joined_back}
 use Rattle.helix_forest.specs.Closed.{IsAmong, look}
-use Rattle.helix_relations.specs.Extending.{Graph, HasPartner, Extends}
+use Rattle.helix_search.specs.Extending.{Graph, HasPartner, Extends}
 use Rattle.helix_relations.specs.Rows.{IsForestOf, IsGoodRow, HasFixed}
 
 -- the ends of a pair are different nodes of so many

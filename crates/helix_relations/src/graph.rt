@@ -2,7 +2,7 @@
 
 /// What has a graph of nodes, of which proofs alone speak.
 pub trait HasGraph {
-    ghost use Rattle.helix_relations.specs.Extending.{Graph};
+    ghost use Rattle.helix_search.specs.Extending.{Graph};
 
     ghost graph: { Self → Graph };
 }

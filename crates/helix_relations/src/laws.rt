@@ -1,9 +1,11 @@
 //! Laws of cells that extend over trees, each the contract of a function that does nothing.
 
-ghost use Rattle.std.specs.Prelude.{◌≡◌, ◌<◌, ◌≤◌, ◌↔◌, ℕ, List, Option, None};
+ghost use Rattle.std.specs.Prelude.{◌≡◌, ◌<◌, ◌≤◌, ◌↔◌, ℕ, List, Option, None, length};
 ghost use Rattle.helix_values.specs.declared.cell.Cell.{Cell};
 ghost use Rattle.helix_profile.specs.declared.relation.Relation.{Relation};
-ghost use Rattle.helix_relations.specs.Extending.{Extends};
+ghost use Rattle.helix_search.specs.Extending.{Extends};
+ghost use Rattle.helix_relations.specs.Region.{RegionContent, IsRegion, IsRegionRow, BeginsWith, ExtendsTo};
+ghost use Rattle.helix_relations.specs.RegionGraph.{graph_of, fixed_by, node_relations};
 ghost use Rattle.helix_relations.specs.Rows.{IsForestOf, IsGoodRow, HasFixed, IsInSomeRow, IsFirstOfTree};
 
 use crate::graph::HasGraph;
@@ -22,4 +24,19 @@ pub fn trees_have_rows<G: HasGraph>()
         → (depth : ℕ) → count ≤ depth → ((u : ℕ) → u < count → IsFirstOfTree relations u
         → (v : Cell) × Extends (G.graph nodes) (λ other. None) depth None u v)
         ↔ ((row : ℕ → Cell) × IsGoodRow (G.graph nodes) count row) }
+{}
+
+/// Where some row of a region begins with the cells of a prefix, the cells of the next field that extend in the graph of
+/// the region are those of such rows; and the region has rows exactly where some cell of the first field of each tree
+/// extends.
+pub fn cells_of_a_region()
+    ensures extends { (region : RegionContent) → IsRegion region → (prefix : List Cell) (level : ℕ)
+        → level < length region.fields → (row : List Cell) → BeginsWith region prefix level row
+        → (depth : ℕ) → length region.fields ≤ depth → (v : Cell)
+        → Extends (graph_of region) (fixed_by region prefix level) depth None level v
+        ↔ ExtendsTo region prefix level v }
+    ensures has_rows { (region : RegionContent) → IsRegion region → (depth : ℕ) → length region.fields ≤ depth
+        → ((u : ℕ) → u < length region.fields → IsFirstOfTree (node_relations region) u
+        → (v : Cell) × Extends (graph_of region) (λ other. None) depth None u v)
+        ↔ ((row : List Cell) × IsRegionRow region row) }
 {}
