@@ -35,3 +35,6 @@ pub use graph::HasGraph;
 pub use region::Region;
 pub use regions::Regions;
 pub use signed::SignedRelation;
+
+#[cfg(test)]
+mod tests;
