@@ -3,6 +3,7 @@ pub mod Rows
 pub mod Region
 pub mod RegionCode
 pub mod RegionGraph
+pub mod SearchGraph
 pub mod Change
 pub mod Lending
 -- The crate's inner words.
@@ -17,3 +18,5 @@ pub mod SeeingLaws
 pub mod NumberingLaws
 pub mod GraphLaws
 pub mod RegionLaws
+pub mod SearchLaws
+pub mod RowLaws

@@ -199,6 +199,12 @@ module _ (region : RegionContent) (is : IsRegion region) where
         agree_at numbers level row agree u below (in_numbers u (omega (arith, below, within)))
         ∙ same_Some (cell_at prefix (number_of region u)) v (sym (fixed_before u below) ∙ e)
 
+    -- a fixed cell is one of its field
+    pub fixed_cells : (row : List Cell) → BeginsWith region prefix level row → (u : ℕ) (v : Cell) → u < count
+        → fixed_by region prefix level u ≡ Some v → (graph_of region).Has u v
+    fixed_cells row begins u v below e = subst (IsCellIn (slice_get region.fields u))
+        (has_fixed row begins.agrees u v e) ((good_of_row row begins.is_row).has u below)
+
     agrees : (cells : ℕ → Cell) → HasFixed fixed cells → AgreeAt (take level numbers) (by_number cells) prefix
     agrees cells has = agree_from numbers level (by_number cells)
         (λ u below in_ns. by_number_at cells u (in_fields u in_ns)

@@ -4,8 +4,9 @@ ghost use Rattle.std.specs.Prelude.{◌≡◌, ◌<◌, ◌≤◌, ◌↔◌, �
 ghost use Rattle.helix_values.specs.declared.cell.Cell.{Cell};
 ghost use Rattle.helix_profile.specs.declared.relation.Relation.{Relation};
 ghost use Rattle.helix_search.specs.Extending.{Extends};
-ghost use Rattle.helix_relations.specs.Region.{RegionContent, IsRegion, IsRegionRow, BeginsWith, ExtendsTo};
+ghost use Rattle.helix_relations.specs.Region.{RegionContent, numbers_of, IsRegion, IsRegionRow, AgreeAt, BeginsWith, ExtendsTo};
 ghost use Rattle.helix_relations.specs.RegionGraph.{graph_of, fixed_by, node_relations};
+ghost use Rattle.helix_relations.specs.SearchGraph.{IsRelated, IsSearchGraph};
 ghost use Rattle.helix_relations.specs.Rows.{IsForestOf, IsGoodRow, HasFixed, IsInSomeRow, IsFirstOfTree};
 
 use crate::graph::HasGraph;
@@ -28,7 +29,7 @@ pub fn trees_have_rows<G: HasGraph>()
 
 /// Where some row of a region begins with the cells of a prefix, the cells of the next field that extend in the graph of
 /// the region are those of such rows; and the region has rows exactly where some cell of the first field of each tree
-/// extends.
+/// extends. A row with the same cells at the region's fields is a row of it too.
 pub fn cells_of_a_region()
     ensures extends { (region : RegionContent) → IsRegion region → (prefix : List Cell) (level : ℕ)
         → level < length region.fields → (row : List Cell) → BeginsWith region prefix level row
@@ -39,4 +40,16 @@ pub fn cells_of_a_region()
         → ((u : ℕ) → u < length region.fields → IsFirstOfTree (node_relations region) u
         → (v : Cell) × Extends (graph_of region) (λ other. None) depth None u v)
         ↔ ((row : List Cell) × IsRegionRow region row) }
+    ensures by_fields { (region : RegionContent) → IsRegion region → (row other : List Cell)
+        → AgreeAt (numbers_of region.fields) row other → IsRegionRow region row → IsRegionRow region other }
+{}
+
+/// The same in a graph that a search goes through: it has the same neighbours, and knows of the related fields alone
+/// which cells they have and which of these stand together.
+pub fn searched_cells_of_a_region<G: HasGraph>()
+    ensures { (search : G) (region : RegionContent) → IsRegion region → IsSearchGraph region (G.graph search)
+        → (prefix : List Cell) (level : ℕ) → IsRelated region level → (row : List Cell)
+        → BeginsWith region prefix level row → (depth : ℕ) → length region.fields ≤ depth → (v : Cell)
+        → Extends (G.graph search) (fixed_by region prefix level) depth None level v
+        ↔ ExtendsTo region prefix level v }
 {}

@@ -49,4 +49,5 @@ fn laws_of_regions() {
     laws::extending_is_exact::<Region>();
     laws::trees_have_rows::<Region>();
     laws::cells_of_a_region();
+    laws::searched_cells_of_a_region::<Region>();
 }

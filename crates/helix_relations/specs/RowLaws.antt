@@ -1,0 +1,51 @@
+-- A row of a region is told by its cells at the region's fields. Lemmas.
+use Rattle.std.proofs.Common.{◌≡◌, ℕ, inl, inr, List, [], ◌∷◌, sym, subst}
+use Rattle.std.proofs.Math.Path.{subst₂}
+use Rattle.std.specs.List.{AllByRecursion}
+use Rattle.helix_values.specs.declared.cell.Cell.{Cell}
+use Rattle.helix_profile.specs.Satisfaction.{cell_at}
+use Rattle.helix_forest.specs.Closed.{IsAmong}
+use Rattle.helix_relations.specs.declared.signed.SignedRelation.{SignedRelation}
+use Rattle.helix_relations.specs.Region.{RegionField, RegionContent, numbers_of, IsRegionCell, StandsRelation, IsRegionRow, AgreeAt, IsLeftEnd, IsRightEnd, JoinsFields, IsRegion}
+use Rattle.helix_relations.specs.GraphLaws.{among_of, fact_of}
+
+module _ (row other : List Cell) where
+  same_cell : (numbers : List ℕ) (number : ℕ) → AgreeAt numbers row other → IsAmong number numbers
+      → cell_at row number ≡ cell_at other number
+  same_cell [] number agree none = absurd none
+  same_cell (n ∷ numbers) number agree (inl here) =
+      subst (λ k. cell_at row k ≡ cell_at other k) (sym here) agree.0
+  same_cell (n ∷ numbers) number agree (inr later) = same_cell numbers number agree.1 later
+
+  same_cells : (fields : List RegionField) → AgreeAt (numbers_of fields) row other
+      → AllByRecursion (λ field. IsRegionCell field (cell_at row field.number)) fields
+      → AllByRecursion (λ field. IsRegionCell field (cell_at other field.number)) fields
+  same_cells [] agree all = tt
+  same_cells (field ∷ fields) agree all =
+      (subst (IsRegionCell field) agree.0 all.0, same_cells fields agree.1 all.1)
+
+  same_relations : (fields : List RegionField) → AgreeAt (numbers_of fields) row other → (rest : List SignedRelation)
+      → AllByRecursion (λ signed. JoinsFields fields signed.relation) rest
+      → AllByRecursion
+      (λ signed. StandsRelation signed (cell_at row signed.relation.left) (cell_at row signed.relation.right)) rest
+      → AllByRecursion
+      (λ signed. StandsRelation signed (cell_at other signed.relation.left) (cell_at other signed.relation.right)) rest
+  same_relations fields agree [] ends all = tt
+  same_relations fields agree (signed ∷ rest) ends all =
+      let left = fact_of fields signed.relation.left (IsLeftEnd fields signed.relation) ends.0 in (
+        subst₂ (StandsRelation signed)
+            (same_cell (numbers_of fields) signed.relation.left agree
+            (among_of fields signed.relation.left (IsLeftEnd fields signed.relation) ends.0))
+            (same_cell (numbers_of fields) signed.relation.right agree
+            (among_of fields signed.relation.right (IsRightEnd signed.relation left.0) left.1.1))
+            all.0,
+        same_relations fields agree rest ends.1 all.1,
+      )
+
+  -- a row with the same cells at the region's fields is a row of it too
+  pub same_row : (region : RegionContent) → IsRegion region → AgreeAt (numbers_of region.fields) row other
+      → IsRegionRow region row → IsRegionRow region other
+  same_row region is agree is_row = record {
+    cells = same_cells region.fields agree is_row.cells;
+    relations = same_relations region.fields agree region.relations is.ends is_row.relations;
+  }
