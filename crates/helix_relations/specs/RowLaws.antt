@@ -1,13 +1,14 @@
 -- A row of a region is told by its cells at the region's fields. Lemmas.
-use Rattle.std.proofs.Common.{◌≡◌, ℕ, inl, inr, List, [], ◌∷◌, sym, subst}
+use Rattle.std.proofs.Common.{◌≡◌, ℕ, ◌+◌, ◌<◌, inl, inr, List, [], ◌∷◌, ◌++◌, length, take, slice_index, sym, ◌∙◌, subst, arith}
+use Rattle.std.proofs.lemmas.List.{take_more, take_all}
 use Rattle.std.proofs.Math.Path.{subst₂}
 use Rattle.std.specs.List.{AllByRecursion}
 use Rattle.helix_values.specs.declared.cell.Cell.{Cell}
 use Rattle.helix_profile.specs.Satisfaction.{cell_at}
 use Rattle.helix_forest.specs.Closed.{IsAmong}
 use Rattle.helix_relations.specs.declared.signed.SignedRelation.{SignedRelation}
-use Rattle.helix_relations.specs.Region.{RegionField, RegionContent, numbers_of, IsRegionCell, StandsRelation, IsRegionRow, AgreeAt, IsLeftEnd, IsRightEnd, JoinsFields, IsRegion}
-use Rattle.helix_relations.specs.GraphLaws.{among_of, fact_of}
+use Rattle.helix_relations.specs.Region.{RegionField, RegionContent, numbers_of, IsRegionCell, StandsRelation, IsRegionRow, AgreeAt, BeginsWith, ExtendsTo, IsLeftEnd, IsRightEnd, JoinsFields, IsRegion}
+use Rattle.helix_relations.specs.GraphLaws.{among_of, fact_of, as_many}
 
 module _ (row other : List Cell) where
   same_cell : (numbers : List ℕ) (number : ℕ) → AgreeAt numbers row other → IsAmong number numbers
@@ -49,3 +50,35 @@ module _ (row other : List Cell) where
     cells = same_cells region.fields agree is_row.cells;
     relations = same_relations region.fields agree region.relations is.ends is_row.relations;
   }
+
+agree_through : (numbers : List ℕ) (a b c : List Cell) → AgreeAt numbers a b → AgreeAt numbers c b → AgreeAt numbers a c
+agree_through [] a b c one two = tt
+agree_through (n ∷ numbers) a b c one two = (one.0 ∙ sym two.0, agree_through numbers a b c one.1 two.1)
+
+agree_after : (numbers : List ℕ) (last : ℕ) (a b : List Cell) → AgreeAt numbers a b
+    → cell_at a last ≡ cell_at b last → AgreeAt (numbers ++ last ∷ []) a b
+agree_after [] last a b agree same = (same, tt)
+agree_after (n ∷ numbers) last a b agree same = (agree.0, agree_after numbers last a b agree.1 same)
+
+-- where a cell extends a prefix to a row, that row begins with the prefix and the cell
+pub begins_next : (region : RegionContent) (level : ℕ) → level < length region.fields → (prefix next : List Cell)
+    (v : Cell) (to : ExtendsTo region prefix level v) → AgreeAt (take level (numbers_of region.fields)) next prefix
+    → cell_at next (slice_index (numbers_of region.fields) level) ≡ v → BeginsWith region next (level + 1) to.row
+begins_next region level within prefix next v to agree is =
+    let numbers : List ℕ = numbers_of region.fields in
+    let in_numbers : level < length numbers = let same = as_many region.fields in omega (arith, same, within) in
+    record {
+      is_row = to.begins.is_row;
+      agrees = subst (λ ns. AgreeAt ns to.row next) (sym (take_more numbers level 0 in_numbers))
+          (agree_after (take level numbers) (slice_index numbers level) to.row next
+          (agree_through (take level numbers) to.row prefix next to.begins.agrees agree) (to.is ∙ sym is));
+    }
+
+-- a prefix of all fields with which a row begins is a row
+pub begins_whole : (region : RegionContent) → IsRegion region → (prefix row : List Cell)
+    → BeginsWith region prefix (length region.fields) row → IsRegionRow region prefix
+begins_whole region is prefix row begins =
+    let numbers : List ℕ = numbers_of region.fields in
+    let all : take (length region.fields) numbers ≡ numbers =
+    take_all (length region.fields) numbers (let same = as_many region.fields in omega (arith, same)) in
+    same_row row prefix region is (subst (λ ns. AgreeAt ns row prefix) all begins.agrees) begins.is_row
