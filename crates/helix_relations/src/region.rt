@@ -66,7 +66,8 @@ impl Region {
 
     /// How many questions were asked. The count stands still at 2^64 - 1.
     pub fn asked(&self) -> u64
-        ensures { result ≡ self.now.asked }
+        ensures value { result ≡ self.now.asked }
+        ensures region { IsRegion self.now }
     {
         self.asked
     }
