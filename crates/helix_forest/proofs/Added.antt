@@ -3,7 +3,7 @@ use Rattle.std.proofs.Common.{◌≡◌, ◌≢◌, ℕ, ◌≤◌, ◌⊎◌, i
 use Rattle.std.specs.List.{AllByRecursion}
 use Rattle.helix_profile.specs.declared.relation.Relation.{Relation}
 use Rattle.helix_profile.specs.Forest.{AreJoined, IsPathTo, AreDifferent, IsForest}
-use Rattle.helix_forest.proofs.Joins.{AreEnds, joined_or_last}
+use Rattle.helix_forest.specs.Joins.{AreEnds, joined_or_last}
 
 -- a field that isn't an end of a relation
 abbrev IsNoEnd : Relation → ℕ → Type 0

@@ -11,7 +11,7 @@ use Rattle.helix_profile.specs.Forest.{AreJoined, IsForest}
 use Rattle.helix_forest.specs.Closing.{HasEndsBelow, ClosesCycle, IsFirstToClose}
 use Rattle.helix_forest.specs.Inner.Trees.{IsRelabelled, AreTreesOf, TellsOfNext}
 use Rattle.helix_forest.specs.declared.forest.Trees.{Trees}
-use Rattle.helix_forest.proofs.Closed.{not_after, not_before}
+use Rattle.helix_forest.specs.Closed.{not_after, not_before}
 use Rattle.helix_forest.proofs.TreeSteps.{on_a_line, closes_here, on_two_trees}
 
 -- a label that was read

@@ -6,7 +6,7 @@ use Rattle.helix_profile.specs.declared.relation.Relation.{Relation}
 use Rattle.helix_profile.specs.Forest.{AreJoined, IsCycle}
 use Rattle.helix_forest.specs.Closing.{AreLinked, HasEndsBelow}
 use Rattle.helix_forest.specs.Inner.Trees.{AreOwn, other_label, ReplacesUpTo, IsRelabelled, AreTreesOf}
-use Rattle.helix_forest.proofs.Joins.{AreEnds, joined_before, joined_last, joined_or_last, joined_back, no_new_cycle, still_linked, linked_on}
+use Rattle.helix_forest.specs.Joins.{AreEnds, joined_before, joined_last, joined_or_last, joined_back, no_new_cycle, still_linked, linked_on}
 use Rattle.helix_forest.proofs.Added.{still_forest}
 
 -- one label after another

@@ -7,7 +7,7 @@ use Rattle.std.specs.List.{AllByRecursion}
 use Rattle.helix_profile.specs.declared.relation.Relation.{Relation}
 use Rattle.helix_profile.specs.Forest.{AreJoined, IsPathTo, AreDifferent, IsForest}
 use Rattle.helix_forest.specs.Closing.{AreLinked, ClosesCycle}
-use Rattle.helix_forest.proofs.Joins.{joined_before, joined_last, joined_take, same_path, no_new_cycle}
+use Rattle.helix_forest.specs.Joins.{joined_before, joined_last, joined_take, same_path, no_new_cycle}
 
 -- a way along different fields
 record IsWay (rs : List Relation) (from to : ℕ) (between : List ℕ) : Type 0 where
@@ -18,11 +18,13 @@ record IsWay (rs : List Relation) (from to : ℕ) (between : List ℕ) : Type 0 
 abbrev Way : List Relation → ℕ → ℕ → Type 0
 Way rs from to = (between : List ℕ) × IsWay rs from to between
 
-abbrev IsAmong : ℕ → List ℕ → Type 0
+-- a field of a list
+abbrev pub IsAmong : ℕ → List ℕ → Type 0
 IsAmong f [] = ⊥
 IsAmong f (g ∷ fields) = (f ≡ g) ⊎ IsAmong f fields
 
-look : (f : ℕ) (fields : List ℕ) → IsAmong f fields ⊎ AllByRecursion (λ other. f ≢ other) fields
+-- whether a field is one of a list
+pub look : (f : ℕ) (fields : List ℕ) → IsAmong f fields ⊎ AllByRecursion (λ other. f ≢ other) fields
 look f [] = inr tt
 look f (g ∷ fields) = ⊎_elim (λ same. inl (inl same))
     (λ other. ⊎_elim (λ later. inl (inr later)) (λ none. inr (other, none)) (look f fields)) (cases_eq f g)
@@ -82,7 +84,7 @@ module _ (rs : List Relation) (r : Relation) where
     ),
   )
 
-  closed : ¬ AreJoined rs r.left r.right → r.left ≢ r.right → AreLinked rs r.left r.right → ¬ IsForest (rs ++ r ∷ [])
+  pub closed : ¬ AreJoined rs r.left r.right → r.left ≢ r.right → AreLinked rs r.left r.right → ¬ IsForest (rs ++ r ∷ [])
   closed new differ link = let way : Way rs r.left r.right = to_way rs link.0 r.left r.right differ link.1 in
       along_way way.0 new way.1
 
