@@ -1,0 +1,2 @@
+-- What the public clauses rest on.
+pub mod Regions
