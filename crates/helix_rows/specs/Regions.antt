@@ -1,5 +1,5 @@
 -- Rows of some fields, the cells that go on from their first ones, and the least of these.
-use Rattle.std.specs.Prelude.{◌≡◌, ℕ, ◌≤◌, Bool, true, false, List, [], ◌∷◌, ◌++◌, map, length, slice_index_or}
+use Rattle.std.specs.Prelude.{◌≡◌, ℕ, ◌<◌, ◌≤◌, Bool, true, false, List, [], ◌∷◌, ◌++◌, map, length, slice_index_or}
 use Rattle.std.specs.List.{All}
 use Rattle.helix_base.specs.Steps.{Counted}
 use Rattle.helix_values.specs.Order.{CellLess}
@@ -55,3 +55,9 @@ IsLeastStep Has question false old new = (new ≡ old) × ((other : Cell) → Ha
 pub record NoneFalls (old new : Counted) : Type 0 where
   pub domain : old.domain ≤ new.domain
   pub moves : old.moves ≤ new.moves
+
+-- the first cell in which a new row differs from the old one is this one, and it is above the old one
+pub record IsFirstChange (field : ℕ) (old new : List Cell) : Type 0 where
+  pub within : field < length new
+  pub same : (other : ℕ) → other < field → cell_at old other ≡ cell_at new other
+  pub above : CellLess (cell_at old field) (cell_at new field)

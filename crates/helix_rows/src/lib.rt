@@ -1,6 +1,13 @@
 //! The walk over the rows of disjoint parts, in ascending order.
 #![tactic(auto)]
 
+mod climb;
+mod layout;
+mod numbers;
+mod offer;
+mod part;
 mod region;
+mod state;
 
+pub use part::Part;
 pub use region::{Question, Region};
