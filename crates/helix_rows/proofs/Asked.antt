@@ -54,7 +54,7 @@ offered_same P Q Admitted n old new to from (inl (none, same)) = inl ((λ other 
 offered_same P Q Admitted n old new to from (inr (c, answer, cases)) =
     inr (c, least_same P Q Admitted c to from answer, cases)
 
-some_region : {R : Type 0} (regions : List R) (n : ℕ) → n < length regions → R
+pub some_region : {R : Type 0} (regions : List R) (n : ℕ) → n < length regions → R
 some_region [] n within = absurd (omega (arith, within))
 some_region (r ∷ regions) n within = r
 

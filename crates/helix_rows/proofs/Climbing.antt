@@ -99,12 +99,9 @@ module _ (H : ℕ → List Cell → Type 0) (layout : Layout) (fields : ℕ) (is
       → AreBegunTo H layout new (field + 1)
   begun_more begun goes other less = by (same_or_not other field)
     where
-      Begun : ℕ → Type 0
-      Begun f = Begins (IsInPart H (part_of layout f).regions) (up_to layout f new)
       by : (other ≡ field) ⊎ ¬ (other ≡ field)
           → Begins (IsInPart H (part_of layout other).regions) (up_to layout other new)
-      unfolding Begun
-      by (inl e) = subst Begun (sym e) (subst (λ cells. Begins (IsInPart H (part_of layout field).regions) cells)
+      by (inl e) = subst (λ f. Begins (IsInPart H (part_of layout f).regions) (up_to layout f new)) (sym e) (subst (λ cells. Begins (IsInPart H (part_of layout field).regions) cells)
           (sym (up_to_is layout fields is field within new
           ∙ ap (λ cells. cells ++ cell_at new field ∷ []) (before_same layout fields is field within new row agree))) goes)
       by (inr differs) =
@@ -210,8 +207,8 @@ module _ {R : Type 0} (F : R → List ℕ) (Has : R → List Cell → Type 0) (i
   pub answer_then : (field : ℕ) (row : List Cell) (question : Question) (yes : Bool) (old new : Cell)
       → IsLeastStep (GoesOn (HasAt Has current) layout field row) question yes old new
       → IsLeastStep (GoesOn (HasAt Has initial) layout field row) question yes old new
-  answer_then field row question yes old new =
-      answer_same _ _ question yes old new
+  answer_then field row question is old new =
+      answer_same _ _ question is old new
       (λ c. begun_then (part_of layout field).regions (before_of layout field row ++ c ∷ []))
       (λ c. begun_now (part_of layout field).regions (before_of layout field row ++ c ∷ []))
 
@@ -258,8 +255,9 @@ module _ {R : Type 0} (F : R → List ℕ) (Has : R → List Cell → Type 0)
           is.back (level_of layout field).part i level_here.part (omega (arith, less, level_here.position)) in
       let there : BegunAs (record { part = (level_of layout field).part; position = i }) =
           subst BegunAs back (begun before earlier) in
+      let more : i + 1 ≡ suc i = omega arith in
       subst (λ count. Begins (IsInPart (HasAt Has regions) (part_of layout field).regions)
-      (piece (take count (part_of layout field).fields) row)) (omega arith) there
+      (piece (take count (part_of layout field).fields) row)) more there
 
   pub begun_at : AreBegunTo (HasAt Has regions) layout row field
       → Begins (IsInPart (HasAt Has regions) (part_of layout field).regions) (before_of layout field row)
@@ -294,3 +292,8 @@ pub start_answers : (Has : Cell → Type 0) (yes : Bool) (old new : Cell) → (c
     → IsLeastStep Has Start yes old new → yes ≡ true
 start_answers Has true old new some answer = refl
 start_answers Has false old new some answer = absurd (answer.1 some.0 some.1 tt)
+
+pub changed_none : {X : Type 0} (yes : Bool) (old new : List X) (index : ℕ) (item : X)
+    → new ≡ ChangedIf yes old index item → yes ≡ false → new ≡ old
+changed_none true old new index item is not = cc not
+changed_none false old new index item is not = is

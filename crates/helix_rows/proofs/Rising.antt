@@ -35,15 +35,16 @@ first_change [] [] long less = absurd (less_equal less)
     less_equal e = cc e
 first_change [] (b ∷ ys) long less = absurd (omega (arith, long))
 first_change (a ∷ xs) [] long less = absurd (omega (arith, long))
-first_change (a ∷ xs) (b ∷ ys) long less = by (cell_cmp a b) refl
+first_change (a ∷ xs) (b ∷ ys) long less = by (λ same below. first_change xs ys same below) (cell_cmp a b) refl
   where
     greater_less : Greater ≡ Less → ⊥
     greater_less e = cc e
-    by : (o : Ordering) → cell_cmp a b ≡ o → (field : ℕ) × IsFirstChange field (a ∷ xs) (b ∷ ys)
-    by Less is = (0, record { within = omega (arith, long); same = λ f inside. absurd (omega (arith, inside)); above = is })
-    by Equal is =
+    by : (length xs ≡ length ys → RowLess xs ys → (field : ℕ) × IsFirstChange field xs ys) → (o : Ordering)
+        → cell_cmp a b ≡ o → (field : ℕ) × IsFirstChange field (a ∷ xs) (b ∷ ys)
+    by later Less is = (0, record { within = omega (arith, long); same = λ f inside. absurd (omega (arith, inside)); above = is })
+    by later Equal is =
         let same : a ≡ b = same_cell a b is in
-        let rest = first_change xs ys (omega (arith, long)) (sym (then_rest a b xs ys same) ∙ less) in
+        let rest = later (omega (arith, long)) (sym (then_rest a b xs ys same) ∙ less) in
         (suc rest.0, record {
           within = omega (arith, rest.1.within);
           same = elim_first same rest.1.same;
@@ -53,7 +54,7 @@ first_change (a ∷ xs) (b ∷ ys) long less = by (cell_cmp a b) refl
         elim_first : a ≡ b → {n : ℕ} → Agree n xs ys → Agree (suc n) (a ∷ xs) (b ∷ ys)
         elim_first same agree zero inside = same
         elim_first same agree (suc f) inside = agree f (omega (arith, inside))
-    by Greater is = absurd (greater_less (sym (ap (λ o. ordering_then o (row_cmp xs ys)) is) ∙ less))
+    by later Greater is = absurd (greater_less (sym (ap (λ o. ordering_then o (row_cmp xs ys)) is) ∙ less))
 
 pub below_from : (a b : List Cell) (field : ℕ) → length a ≡ length b → IsFirstChange field a b → RowLess a b
 below_from [] b field long change = absurd (omega (arith, change.within, long))

@@ -1,10 +1,10 @@
 use Rattle.std.proofs.Common.{rules, ◌≡◌, ℕ, ◌+◌, ◌-◌, ◌<◌, true, false, length, refl, sym, ◌∙◌, ap, subst, arith}
 use Rattle.helix_rows.proofs.Asked.{steps_both}
-use Rattle.helix_rows.proofs.Climbing.{alive_now, alive_then, begun_now, answer_then, alive_less, before_begun, alive_more, begun_more, others_same, fit_changed, down_none, is_raised}
+use Rattle.helix_rows.proofs.Climbing.{alive_now, alive_then, begun_now, answer_then, alive_less, before_begun, alive_more, begun_more, others_same, fit_changed, down_none, changed_none, is_raised}
 use Rattle.helix_rows.proofs.Levels.{agree_changed, long_changed, step_has}
 use Rattle.helix_rows.proofs.Regions.{kept_both}
 use Rattle.helix_rows.specs.Inner.Answers.{IsLastFrom, IsRaised}
-use Rattle.helix_rows.specs.Inner.Levels.{AreAliveTo, AreBegunTo, GoesOn, part_of, ChangedIf}
+use Rattle.helix_rows.specs.Inner.Levels.{AreAliveTo, AreBegunTo, GoesOn, part_of}
 use Rattle.helix_rows.specs.Parts.{HasAt, IsInParts}
 use Rattle.helix_rows.specs.Regions.{cell_at, IsLeastStep}
 use Rattle.helix_rows.specs.declared.region.Question.TheVariants.{After}
@@ -80,10 +80,11 @@ returns-then-ask-clause-fit g c =
 
 pub loop-done-preserved : goal.loop-done-preserved
 loop-done-preserved g c =
-    let row = subst (λ yes. c.ask.new.state.row ≡ ChangedIf yes c.loop-done.state.row (c.args.end - 1 - c.loop-done.done) _) c.if-ask.false
-    c.ask.ensures.row in
-    let alive = subst (λ yes. c.ask.new.state.alive.items ≡ ChangedIf yes c.loop-done.state.alive.items (c.args.end - 1 - c.loop-done.done) _)
-    c.if-ask.false c.ask.ensures.alive in
+    let row : c.ask.new.state.row ≡ c.loop-done.state.row = changed_none c.ask.result c.loop-done.state.row
+    c.ask.new.state.row (c.args.end - 1 - c.loop-done.done) _ c.ask.ensures.row c.if-ask.false in
+    let alive : c.ask.new.state.alive.items ≡ c.loop-done.state.alive.items =
+        changed_none c.ask.result c.loop-done.state.alive.items c.ask.new.state.alive.items
+        (c.args.end - 1 - c.loop-done.done) _ c.ask.ensures.alive c.if-ask.false in
     let answer = subst (λ yes. IsLeastStep (GoesOn (HasAt g.R.Region.HasRow c.args.state.now.regions.items) c.args.layout.now (c.args.end - 1 - c.loop-done.done) c.loop-done.state.row) After yes
     (cell_at c.loop-done.state.row (c.args.end - 1 - c.loop-done.done)) (cell_at c.ask.new.state.row (c.args.end - 1 - c.loop-done.done))) c.if-ask.false
     (answer_then g.R.Region.fields g.R.Region.HasRow c.args.state.now.regions.items c.loop-done.state.regions.items
