@@ -1,6 +1,7 @@
 pub mod Asked
 pub mod CellOrder
 pub mod Climbing
+pub mod Finishing
 pub mod Found
 pub mod Levels
 pub mod Offers

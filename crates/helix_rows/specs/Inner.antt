@@ -1,3 +1,4 @@
 pub mod Numbers
 pub mod Levels
 pub mod Answers
+pub mod Places

@@ -8,6 +8,8 @@ mod offer;
 mod part;
 mod region;
 mod state;
+mod walk;
 
 pub use part::Part;
+pub use walk::RowWalk;
 pub use region::{Question, Region};

@@ -1,7 +1,8 @@
 -- The fields as levels of the parts, and the regions that are alive at them.
-use Rattle.std.specs.Prelude.{◌≡◌, ◌↔◌, ℕ, zero, suc, ◌+◌, ◌<◌, ◌≤◌, Bool, true, false, List, [], ◌∷◌, take, length, slice_index_or, slice_set}
+use Rattle.std.specs.Prelude.{◌≡◌, ℕ, zero, suc, ◌+◌, ◌<◌, ◌≤◌, Bool, true, false, List, [], ◌∷◌, take, length, slice_index_or, slice_set}
 use Rattle.std.specs.List.{All, Contains}
 use Rattle.helix_rows.specs.Inner.Numbers.{Listed}
+pub use Rattle.helix_rows.specs.Parts.{KeepRegions}
 use Rattle.helix_rows.specs.Parts.{IsInPart, AreRegionsOf}
 use Rattle.helix_rows.specs.Regions.{cell_at, number_at, piece, Begins, Continues}
 use Rattle.helix_rows.specs.declared.layout.Layout.{Layout}
@@ -89,14 +90,6 @@ OneIf false alive field number = alive
 -- two rows have the same cells before a field
 abbrev pub Agree : ℕ → List Cell → List Cell → Type 0
 Agree end a b = (field : ℕ) → field < end → cell_at a field ≡ cell_at b field
-
--- the questions changed no region's fields or rows
-pub record KeepRegions {R : Type 0} (fields_of : R → List ℕ) (Has : R → List Cell → Type 0) (old new : List R) : Type 0 where
-  pub count : length new ≡ length old
-  pub fields : (n : ℕ) (d : R) → n < length old
-      → fields_of (slice_index_or new n d) ≡ fields_of (slice_index_or old n d)
-  pub rows : (n : ℕ) (d : R) (cells : List Cell) → n < length old
-      → Has (slice_index_or new n d) cells ↔ Has (slice_index_or old n d) cells
 
 -- the regions are those of the parts, and each list of them has room for all of one part
 pub record IsReady {R : Type 0} (fields_of : R → List ℕ) (Has : R → List Cell → Type 0) (layout : Layout)

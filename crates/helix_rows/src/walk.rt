@@ -1,0 +1,92 @@
+//! The walk over the rows of disjoint parts.
+
+ghost use Rattle.std.specs.Prelude.{◌≡◌, ◌<◌, ◌≤◌, ℕ, ◌≢◌, List, Some, None, length, min, IfSome, IfNone, IfOk, All};
+ghost use Rattle.std.specs.List.{sum_by};
+ghost use Rattle.helix_base.specs.Count.{last_count};
+ghost use Rattle.helix_rows.specs.Regions.{NoneFalls};
+ghost use Rattle.helix_rows.specs.Parts.{InWalk, IsNextPlace, IsAtEnd, KeepsParts, ArePartsOf, AreRegionsOf};
+ghost use Rattle.helix_rows.specs.Inner.Places.{IsWalk, place_of};
+ghost use Rattle.helix_values.specs.Slot.{FitsSlot};
+
+use crate::climb::{descend, raise};
+use crate::layout::Layout;
+use crate::region::Region;
+use crate::state::State;
+use helix_base::{Ledger, Steps};
+use helix_values::RowBuf;
+use std::marker::Model;
+
+/// What the place is: nothing, or a row that was given.
+#[derive(Clone, Copy, Debug, PartialEq, Eq)]
+pub(crate) enum Place {
+    Nothing,
+    Given,
+}
+
+/// The rows that are in each of several parts, in ascending order, one at a time. Contracts see the parts, the regions,
+/// the number of fields, and the place.
+#[derive(Drop)]
+pub struct RowWalk<R: Region> {
+    pub(crate) layout: Layout,
+    pub(crate) state: State<R>,
+    pub(crate) place: Place,
+    pub(crate) empty: bool,
+}
+
+impl<R: Region> Model for RowWalk<R> {
+    ghost use Rattle.std.specs.Prelude.{length};
+    ghost use Rattle.helix_rows.specs.Parts.{Walk};
+    ghost use Rattle.helix_rows.specs.Inner.Places.{IsWalk, place_of};
+
+    ghost Value = { Walk R };
+
+    ghost view = { λ w. record {
+      parts = w.layout.parts;
+      regions = w.state.regions.items;
+      fields = length w.state.row;
+      place = place_of w.place w.state.row;
+    } };
+
+    ghost invariant = { λ w. IsWalk R.fields R.HasRow w.layout w.state.regions.items w.state.alive.items w.state.row
+        w.state.found.numbers.room w.place w.empty };
+}
+
+impl<R: Region> RowWalk<R> {
+    /// Makes the next row the place, and answers how many first cells it has in common with the place before, 0 where
+    /// that was nothing. Answers `None` where no row of the parts is above the place, and leaves the place.
+    pub fn step<L: Ledger>(&mut self, steps: &mut Steps<L>) -> Option<usize>
+        ensures next { IfSome result (IsNextPlace (InWalk R.HasRow self.old) self.old.place self.new.place) }
+        ensures end { IfNone result (IsAtEnd (InWalk R.HasRow self.old) self.old.place self.new.place) }
+        ensures parts { KeepsParts R.fields R.HasRow self.old self.new }
+        ensures steps { NoneFalls steps.old.counts steps.new.counts }
+    {
+        if self.empty {
+            return None;
+        }
+        match self.place {
+            Place::Nothing => {
+                descend(&self.layout, &mut self.state, 0, steps);
+                self.place = Place::Given;
+                Some(0)
+            }
+            Place::Given => {
+                let end = self.state.row.len();
+                match raise(&self.layout, &mut self.state, end, steps) {
+                    Some(field) => {
+                        descend(&self.layout, &mut self.state, field + 1, steps);
+                        Some(field)
+                    }
+                    None => None,
+                }
+            }
+        }
+    }
+
+    /// The row of the place.
+    pub fn row(&self) -> &RowBuf
+        requires { self.now.place ≢ None }
+        ensures { self.now.place ≡ Some result.now }
+    {
+        &self.state.row
+    }
+}
