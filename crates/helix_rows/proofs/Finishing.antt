@@ -1,7 +1,7 @@
 -- The row of a place once all of its fields have their cells.
-use Rattle.std.proofs.Common.{◌≡◌, ◌⊎◌, inl, inr, ℕ, zero, suc, ◌+◌, ◌<◌, ◌≤◌, Bool, true, false, List, [], ◌∷◌, ◌++◌, Option, None, Some, take, length, slice_index_or, refl, sym, ◌∙◌, ap, subst, ⊎_elim, arith}
-use Rattle.std.proofs.lemmas.List.{append-nil, take_all, get_or_default, length-append, length-map, nil_from_length}
-use Rattle.std.proofs.lemmas.List.Elements.{Contains-get_or}
+use Rattle.std.proofs.Common.{◌≡◌, ◌⊎◌, inl, inr, ℕ, zero, suc, ◌+◌, ◌<◌, ◌≤◌, Bool, true, false, List, [], ◌∷◌, ◌++◌, Option, None, Some, take, length, replicate, slice_index_or, refl, sym, ◌∙◌, ap, subst, ⊎_elim, arith}
+use Rattle.std.proofs.lemmas.List.{append-nil, take_all, get_or_default, length-append, length-map, nil_from_length, length-replicate}
+use Rattle.std.proofs.lemmas.List.Elements.{Contains-get_or, All-replicate}
 use Rattle.std.specs.List.{All, Contains}
 use Rattle.helix_rows.proofs.Asked.{some_region}
 use Rattle.helix_rows.proofs.Climbing.{member_goes, alive_now}
@@ -19,8 +19,9 @@ use Rattle.helix_rows.specs.declared.layout.Level.{Level}
 use Rattle.helix_rows.specs.declared.part.Part.{Part}
 use Rattle.helix_values.specs.Slot.{FitsSlot}
 use Rattle.helix_rows.specs.declared.walk.Place.{Place}
-use Rattle.helix_rows.specs.declared.walk.Place.TheVariants.{Given}
+use Rattle.helix_rows.specs.declared.walk.Place.TheVariants.{Nothing, Given}
 use Rattle.helix_values.specs.declared.cell.Cell.{Cell}
+use Rattle.helix_values.specs.declared.cell.Cell.TheVariants as cell
 
 -- each beginning of a row of the parts begins rows of each part
 pub member_begun : (H : ℕ → List Cell → Type 0) (layout : Layout) (fields : ℕ) → IsLayout layout fields
@@ -162,3 +163,21 @@ given_stays F Has old new kept layout row same_row alive same_alive row_is alive
       layout.parts row given.0,
       alive_now F Has old new kept layout row alive (length row) given.1,
     ))
+
+-- a walk that is opened
+pub opened : {R : Type 0} (F : R → List ℕ) (Has : R → List Cell → Type 0) (layout : Layout) (fields : ℕ)
+    (regions : List R) (parts : List Part) (alive : List Listed) (most room : ℕ) (row : List Cell) (empty : Bool)
+    → IsLayout layout fields → layout.parts ≡ parts → AreRegionsOf F Has regions parts → length alive ≡ fields
+    → All (λ listed. listed.room ≡ most) alive → All (λ listed. length listed.items ≤ listed.room) alive
+    → All (λ part. length part.regions ≤ most) layout.parts → room ≡ most → row ≡ replicate fields cell.Null
+    → IsEmptyIf empty layout → IsWalk F Has layout regions alive row room Nothing empty
+opened F Has layout fields regions parts alive most room row empty is parts_are are count rooms few enough room_is row_is
+    emptiness =
+    let long : length row ≡ fields = ap length row_is ∙ length-replicate fields cell.Null in
+    walk_after F Has layout fields is regions alive row room Nothing empty long (record {
+      are = subst (AreRegionsOf F Has regions) (sym parts_are) are;
+      count = count ∙ sym long;
+      rooms = subst (λ r. All (λ listed. listed.room ≡ r) alive) (sym room_is) rooms;
+      few = few;
+      enough = subst (λ r. All (λ part. length part.regions ≤ r) layout.parts) (sym room_is) enough;
+    }) emptiness (subst (All FitsSlot) (sym row_is) (All-replicate FitsSlot fields cell.Null tt)) tt

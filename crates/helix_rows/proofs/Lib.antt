@@ -3,6 +3,7 @@ pub mod CellOrder
 pub mod Climbing
 pub mod Finishing
 pub mod Found
+pub mod Layouts
 pub mod Levels
 pub mod Offers
 pub mod Regions

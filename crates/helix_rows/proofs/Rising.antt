@@ -83,7 +83,7 @@ pub agree_both : (n : ℕ) (a b c : List Cell) → Agree n a b → Agree n b c �
 agree_both n a b c first second f less = first f less ∙ second f less
 
 -- three places of a number
-place : {P : Type 0} (n m : ℕ) → (n < m → P) → (n ≡ m → P) → (m < n → P) → P
+pub place : {P : Type 0} (n m : ℕ) → (n < m → P) → (n ≡ m → P) → (m < n → P) → P
 place n m before at after =
     ⊎_elim before (λ from. ⊎_elim after (λ up. at (omega (arith, from, up))) (cases_lt m n)) (cases_lt n m)
 

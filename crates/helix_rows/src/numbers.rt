@@ -1,6 +1,6 @@
 //! Numbers in room that is made once.
 
-ghost use Rattle.std.specs.Prelude.{◌≡◌, ◌<◌, ◌≤◌, [], ◌∷◌, ◌++◌, length, take, IfOk};
+ghost use Rattle.std.specs.Prelude.{◌≡◌, ◌<◌, ◌≤◌, [], ◌∷◌, ◌++◌, length, take, IfOk, All};
 
 use helix_base::Memory;
 use std::alloc::Global;
@@ -75,4 +75,17 @@ fn zeros(alloc: Global, count: usize) -> Result<Vec<u32>, Memory>
         list.push(0)?;
     }
     Ok(list)
+}
+
+/// Lists of numbers, all empty, each with room for some.
+pub(crate) fn lists_of(alloc: Global, count: usize, room: usize) -> Result<Vec<Numbers>, Memory>
+    ensures count { IfOk result (λ lists. length lists.items ≡ count) }
+    ensures rooms { IfOk result (λ lists. All (λ listed. listed.room ≡ room) lists.items) }
+    ensures few { IfOk result (λ lists. All (λ listed. length listed.items ≤ listed.room) lists.items) }
+{
+    let mut lists = Vec::new(alloc);
+    for _ in 0..count {
+        lists.push(Numbers::open(alloc, room)?)?;
+    }
+    Ok(lists)
 }

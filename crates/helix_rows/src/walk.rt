@@ -9,11 +9,15 @@ ghost use Rattle.helix_rows.specs.Inner.Places.{IsWalk, place_of};
 ghost use Rattle.helix_values.specs.Slot.{FitsSlot};
 
 use crate::climb::{descend, raise};
-use crate::layout::Layout;
+use crate::layout::{Layout, has_empty_part, layout_of, most_regions};
+use crate::numbers::{Numbers, lists_of};
+use crate::offer::Found;
+use crate::part::Part;
 use crate::region::Region;
 use crate::state::State;
-use helix_base::{Ledger, Steps};
-use helix_values::RowBuf;
+use helix_base::{Ledger, List, Memory, Steps};
+use helix_values::{RowBuf, Slot};
+use std::alloc::Global;
 use std::marker::Model;
 
 /// What the place is: nothing, or a row that was given.
@@ -49,6 +53,49 @@ impl<R: Region> Model for RowWalk<R> {
 
     ghost invariant = { λ w. IsWalk R.fields R.HasRow w.layout w.state.regions.items w.state.alive.items w.state.row
         w.state.found.numbers.room w.place w.empty };
+}
+
+impl<R: Region + Drop> RowWalk<R> {
+    /// Opens the walk over rows of this many fields. The place is nothing. A part may have no region: no row is in the
+    /// parts then.
+    pub fn open(
+        alloc: Global,
+        parts: List<Part>,
+        regions: Vec<R>,
+        fields: usize,
+    ) -> Result<RowWalk<R>, Memory>
+        requires parts { ArePartsOf fields parts }
+        requires regions { AreRegionsOf R.fields R.HasRow regions.items parts }
+        ensures { IfOk result (λ walk. walk ≡ record {
+          parts = parts;
+          regions = regions.items;
+          fields = fields;
+          place = None;
+        }) }
+    {
+        let layout = layout_of(alloc, parts, fields)?;
+        let empty = has_empty_part(&layout);
+        let room = most_regions(layout.parts.as_slice());
+        let alive = lists_of(alloc, fields, room)?;
+        let found = Found {
+            numbers: Numbers::open(alloc, room)?,
+            best: Slot::new(),
+            spare: Slot::new(),
+        };
+        let row = RowBuf::open(alloc, fields)?;
+        let state = State {
+            regions,
+            alive,
+            row,
+            found,
+        };
+        Ok(RowWalk {
+            layout,
+            state,
+            place: Place::Nothing,
+            empty,
+        })
+    }
 }
 
 impl<R: Region> RowWalk<R> {
