@@ -2,6 +2,7 @@ pub mod Asked
 pub mod CellOrder
 pub mod Climbing
 pub mod Finishing
+pub mod Following
 pub mod Found
 pub mod Layouts
 pub mod Levels

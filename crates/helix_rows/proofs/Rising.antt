@@ -104,6 +104,16 @@ module _ (In : List Cell → Type 0) (count : ℕ) (long : (row : List Cell) →
       (λ after. last other member
       (agree_back (field + 1) row other (agree_less change.0 (field + 1) row other (omega (arith, after)) change.1.same)) less)
 
+  pub last_at : (row : List Cell) (field : ℕ) → length row ≡ count
+      → ((other : List Cell) → In other → Agree field other row → ¬ (CellLess (cell_at row field) (cell_at other field)))
+      → ((other : List Cell) → In other → Agree field other row → ¬ (cell_at other field ≡ cell_at row field))
+      → IsLastFrom In row field
+  last_at row field is none different other member agree less =
+      let change = first_change row other (is ∙ sym (long other member)) less in
+      place change.0 field (λ before. changed_at row other change.0 field agree change.1 before)
+      (λ at. none other member agree (subst (λ f. CellLess (cell_at row f) (cell_at other f)) at change.1.above))
+      (λ after. different other member agree (sym (change.1.same field after)))
+
   -- the least row of the set
   pub least_row : (new : List Cell) → length new ≡ count → In new
       → ((field : ℕ) → field < count → IsLeastAt In new field) → IsNextRow In None new

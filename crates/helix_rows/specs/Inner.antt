@@ -2,3 +2,4 @@ pub mod Numbers
 pub mod Levels
 pub mod Answers
 pub mod Places
+pub mod Following

@@ -7,7 +7,7 @@ use Rattle.helix_values.specs.Slot.{FitsSlot}
 use Rattle.helix_values.specs.declared.cell.Cell.{Cell}
 use Rattle.helix_values.specs.declared.cell.Cell.TheVariants as cell
 use Rattle.helix_rows.specs.declared.region.Question.{Question}
-use Rattle.helix_rows.specs.declared.region.Question.TheVariants.{Start, After}
+use Rattle.helix_rows.specs.declared.region.Question.TheVariants.{Start, At, After}
 
 -- the cell of a field of a row
 abbrev pub cell_at : List Cell → ℕ → Cell
@@ -35,9 +35,10 @@ pub record Begins (Has : List Cell → Type 0) (cells : List Cell) : Type 0 wher
 abbrev pub Continues : (List Cell → Type 0) → List Cell → Cell → Type 0
 Continues Has cells next = Begins Has (cells ++ next ∷ [])
 
--- the cells that a question admits: all, or those above the row's own
+-- the cells that a question admits: all, those that aren't below the row's own, or those above it
 abbrev pub IsAskedFor : Question → Cell → Cell → Type 0
 IsAskedFor Start own value = Unit {0}
+IsAskedFor At own value = ¬ (CellLess value own)
 IsAskedFor After own value = CellLess own value
 
 -- v is the least cell of a set that is admitted

@@ -15,6 +15,8 @@ use helix_values::{Mark, RowBuf, Slot};
 pub enum Question {
     /// The least cell.
     Start,
+    /// The least cell that isn't below the row's own.
+    At,
     /// The least cell above the row's own.
     After,
 }
@@ -51,7 +53,7 @@ pub trait Region {
         ensures steps { NoneFalls steps.old.counts steps.new.counts };
 
     /// The same of a row whose cells of the first `level` fields go on to a row of the region, in place: its cell of
-    /// the next field becomes the least one, or the least one above it. Where there is none, the row stays.
+    /// the next field becomes the least one, the least one that isn't below it, or the least one above it. Where there is none, the row stays.
     fn step<L: Ledger>(
         &mut self,
         row: &mut RowBuf,

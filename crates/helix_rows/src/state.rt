@@ -60,6 +60,7 @@ fn mark_of<'a>(question: Question, cell: CellRef<'a>) -> Mark<'a>
 {
     match question {
         Question::Start => Mark::Start,
+        Question::At => Mark::At(cell),
         Question::After => Mark::After(cell),
     }
 }
