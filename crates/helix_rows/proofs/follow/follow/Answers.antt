@@ -64,8 +64,7 @@ returns-then-not-is_same-clause-followed g c =
     c.requires.layout c.loop-field.field (omega (arith, c.loop-field-test.true, c.len-count.ensures)) c.loop-field.state.row (ap length c.loop-field.invariant.row) c.ask.new.state.row
       (long_changed c.ask.result c.loop-field.state.row c.ask.new.state.row c.loop-field.field _ c.ask.ensures.row ∙ (ap length c.loop-field.invariant.row))
       agree least (λ same. not_both c.is_same.result c.if-not-is_same.true
-      (c.is_same.ensures.1 ((c.view.ensures ∙ c.slot.ensures) ∙ (same ∙ sym (c.view-in-loop-field.ensures ∙ (c.slot-in-loop-field.ensures
-    ∙ ap (λ r. cell_at r c.loop-field.field) (c.requires.sought ∙ sym c.loop-field.invariant.row)))))))),
+      (c.is_same.ensures.1 ((c.view-in-loop-field.ensures ∙ c.slot-in-loop-field.ensures) ∙ (same ∙ sym (c.view-in-loop-field-2.ensures ∙ (c.set.ensures ∙ (c.view.ensures ∙ c.slot.ensures)))))))),
       (omega (arith, c.loop-field-test.true, c.len-count.ensures)),
       alive_more (HasAt g.R.Region.HasRow c.args.state.now.regions.items) c.args.layout.now (length c.args.state.now.row)
     c.requires.layout c.loop-field.field (omega (arith, c.loop-field-test.true, c.len-count.ensures)) c.loop-field.state.row c.ask.new.state.row agree
@@ -93,8 +92,7 @@ loop-field-preserved g c =
     let least = step_has _ At c.ask.result _ _ answer c.if-not-ask.false in
     let agree = agree_changed c.ask.result c.loop-field.state.row c.ask.new.state.row c.loop-field.field _ c.ask.ensures.row in
     let same : cell_at c.ask.new.state.row c.loop-field.field ≡ cell_at c.loop-field.state.row c.loop-field.field =
-        sym (c.view.ensures ∙ c.slot.ensures) ∙ (c.is_same.ensures.0 c.if-not-is_same.false ∙ (c.view-in-loop-field.ensures ∙ (c.slot-in-loop-field.ensures
-    ∙ ap (λ r. cell_at r c.loop-field.field) (c.requires.sought ∙ sym c.loop-field.invariant.row)))) in
+        sym (c.view-in-loop-field.ensures ∙ c.slot-in-loop-field.ensures) ∙ (c.is_same.ensures.0 c.if-not-is_same.false ∙ (c.view-in-loop-field-2.ensures ∙ (c.set.ensures ∙ (c.view.ensures ∙ c.slot.ensures)))) in
     record {
       row = same_row c.loop-field.state.row c.ask.new.state.row c.loop-field.field c.ask.result c.ask.ensures.row same
           ∙ c.loop-field.invariant.row;
