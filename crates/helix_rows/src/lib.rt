@@ -2,6 +2,7 @@
 #![tactic(auto)]
 
 mod climb;
+mod copy;
 mod follow;
 mod layout;
 mod numbers;

@@ -9,6 +9,8 @@ ghost use Rattle.helix_rows.specs.Inner.Places.{IsWalk, place_of};
 ghost use Rattle.helix_values.specs.Slot.{FitsSlot};
 
 use crate::climb::{descend, raise};
+use crate::copy::copy_row;
+use crate::follow::raise_any;
 use crate::layout::{Layout, has_empty_part, layout_of, most_regions};
 use crate::numbers::{Numbers, lists_of};
 use crate::offer::Found;
@@ -20,10 +22,11 @@ use helix_values::{RowBuf, Slot};
 use std::alloc::Global;
 use std::marker::Model;
 
-/// What the place is: nothing, or a row that was given.
+/// What the place is: nothing, any row that was sought, or a row that was given.
 #[derive(Clone, Copy, Debug, PartialEq, Eq)]
 pub(crate) enum Place {
     Nothing,
+    Sought,
     Given,
 }
 
@@ -34,6 +37,7 @@ pub struct RowWalk<R: Region> {
     pub(crate) layout: Layout,
     pub(crate) state: State<R>,
     pub(crate) place: Place,
+    pub(crate) own: Slot,
     pub(crate) empty: bool,
 }
 
@@ -93,6 +97,7 @@ impl<R: Region + Drop> RowWalk<R> {
             layout,
             state,
             place: Place::Nothing,
+            own: Slot::new(),
             empty,
         })
     }
@@ -116,6 +121,16 @@ impl<R: Region> RowWalk<R> {
                 self.place = Place::Given;
                 Some(0)
             }
+            Place::Sought => {
+                match raise_any(&self.layout, &mut self.state, &mut self.own, steps) {
+                    Some(field) => {
+                        descend(&self.layout, &mut self.state, field + 1, steps);
+                        self.place = Place::Given;
+                        Some(field)
+                    }
+                    None => None,
+                }
+            }
             Place::Given => {
                 let end = self.state.row.len();
                 match raise(&self.layout, &mut self.state, end, steps) {
@@ -127,6 +142,22 @@ impl<R: Region> RowWalk<R> {
                 }
             }
         }
+    }
+
+    /// Makes any row of as many fields the place, whether it is in the parts or not. It asks no question and takes no
+    /// memory.
+    pub fn seek_after(&mut self, row: &RowBuf)
+        requires count { length row.now ≡ self.old.fields }
+        requires fit { All FitsSlot row.now }
+        ensures { self.new ≡ record {
+          parts = self.old.parts;
+          regions = self.old.regions;
+          fields = self.old.fields;
+          place = Some row.now;
+        } }
+    {
+        copy_row(row, &mut self.state.row);
+        self.place = Place::Sought;
     }
 
     /// The row of the place.

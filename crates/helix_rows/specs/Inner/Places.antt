@@ -6,13 +6,14 @@ use Rattle.helix_rows.specs.Inner.Numbers.{Listed}
 use Rattle.helix_rows.specs.Parts.{HasAt, IsInParts}
 use Rattle.helix_rows.specs.declared.layout.Layout.{Layout}
 use Rattle.helix_rows.specs.declared.walk.Place.{Place}
-use Rattle.helix_rows.specs.declared.walk.Place.TheVariants.{Nothing, Given}
+use Rattle.helix_rows.specs.declared.walk.Place.TheVariants.{Nothing, Sought, Given}
 use Rattle.helix_values.specs.Slot.{FitsSlot}
 use Rattle.helix_values.specs.declared.cell.Cell.{Cell}
 
 -- the row of a place
 abbrev pub place_of : Place → List Cell → Option (List Cell)
 place_of Nothing row = None
+place_of Sought row = Some row
 place_of Given row = Some row
 
 -- some part has no region, or none
@@ -23,6 +24,7 @@ IsEmptyIf false layout = All (λ part. ¬ (part.regions ≡ [])) layout.parts
 -- the row of a given place is in the parts, with the regions that are alive at each of its fields
 abbrev pub IsGiven : (ℕ → List Cell → Type 0) → Layout → List Cell → List Listed → Place → Type 0
 IsGiven Has layout row alive Nothing = Unit {0}
+IsGiven Has layout row alive Sought = Unit {0}
 IsGiven Has layout row alive Given = IsInParts Has (length row) layout.parts row × AreAliveTo Has layout row alive (length row)
 
 pub record IsWalk {R : Type 0} (fields_of : R → List ℕ) (Has : R → List Cell → Type 0) (layout : Layout)
