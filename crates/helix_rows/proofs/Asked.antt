@@ -1,5 +1,5 @@
 -- One region of several that is asked for its least cell.
-use Rattle.std.proofs.Common.{◌≡◌, ◌↔◌, ◌⊎◌, inl, inr, ℕ, ◌+◌, ◌<◌, ◌≤◌, Bool, true, false, not, List, [], ◌∷◌, ◌++◌, take, drop, length, slice_index_or, slice_set, refl, sym, ◌∙◌, ap, subst, ⊎_elim, arith}
+use Rattle.std.proofs.Common.{◌≡◌, ◌↔◌, ◌⊎◌, inl, inr, ℕ, ◌+◌, ◌<◌, ◌≤◌, List, [], ◌∷◌, ◌++◌, take, drop, length, slice_index_or, slice_set, refl, sym, ◌∙◌, ap, subst, arith}
 use Rattle.std.proofs.lemmas.List.{get_or_default, take_more, take-append-drop}
 use Rattle.std.proofs.lemmas.List.Elements.{All-contains, Contains-append_left, Contains-push, Contains-get_or}
 use Rattle.std.proofs.lemmas.List.Sums.{sum_by-set}
@@ -121,14 +121,17 @@ module _ {R : Type 0} (F : R → List ℕ) (Has : R → List Cell → Type 0) wh
         by [] e = inl e
         by (m ∷ ns) e =
             let found : IsFound (HasAt Has initial) (take index among) (piece (take position wanted) row) Admitted best =
-                is.found (λ empty. cons_nil m ns (sym e ∙ empty)) in
+            is.found (λ empty. cons_nil m ns (sym e ∙ empty)) in
             let first = at_start c goes in
             let second = found.least.has in
             inr (comparable_cells (piece (take position wanted) row) c best.cell first.rest second.rest
             (comparable _ _
             (record { number = slice_index_or among index 0; listed = Contains-get_or among index 0 within; has = first.has })
-            (record { number = second.has.number; listed = contains_taken among index second.has.number second.has.listed;
-            has = second.has.has })))
+            (record {
+              number = second.has.number;
+              listed = contains_taken among index second.has.number second.has.listed;
+              has = second.has.has;
+            })))
 
     pub best_next : (new : Best) → IsOffered (Continues (Has d)
         (piece (take own_position (F d)) row)) Admitted

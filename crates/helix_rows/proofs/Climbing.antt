@@ -1,19 +1,17 @@
 -- Questions at one field after another.
-use Rattle.std.proofs.Common.{◌≡◌, ◌⊎◌, inl, inr, ℕ, zero, suc, ◌+◌, ◌-◌, ◌<◌, ◌≤◌, Bool, true, false, List, [], ◌∷◌, ◌++◌, take, drop, length, slice_index_or, slice_set, refl, sym, ◌∙◌, ap, subst, ⊎_elim, arith}
-use Rattle.std.proofs.lemmas.Bool.{cases_lt}
-use Rattle.std.proofs.lemmas.List.{append_assoc, take-append-drop, map-append, drop_more, get_or-set_same, get_or-set_other, length-set, length-append, length-map, length-take-le, append-nil, take_all}
+use Rattle.std.proofs.Common.{◌≡◌, ◌⊎◌, inl, inr, ℕ, zero, suc, ◌+◌, ◌<◌, ◌≤◌, Bool, true, false, List, [], ◌∷◌, ◌++◌, take, drop, length, slice_index_or, refl, sym, ◌∙◌, ap, subst, arith}
+use Rattle.std.proofs.lemmas.List.{append_assoc, take-append-drop, map-append, get_or-set_other, length-append, length-map, length-take-le}
 use Rattle.std.proofs.lemmas.List.Elements.{All-set, Contains-get_or}
 use Rattle.std.specs.List.{All, Contains}
 use Rattle.helix_rows.proofs.Asked.{some_region}
-use Rattle.helix_rows.proofs.CellOrder.{not_itself}
-use Rattle.helix_rows.proofs.Levels.{piece_more, begins_fewer, agree_changed, agree_set, before_same, up_to_is, up_to_same, over_part}
-use Rattle.helix_rows.proofs.Regions.{has_new, has_old, in_part_to, in_parts_to, begins_to, same_or_not}
+use Rattle.helix_rows.proofs.Levels.{begins_fewer, before_same, up_to_is, up_to_same, over_part}
+use Rattle.helix_rows.proofs.Regions.{has_new, has_old, in_part_to, begins_to, same_or_not}
 use Rattle.helix_rows.proofs.Rising.{last_down}
 use Rattle.helix_rows.specs.Inner.Answers.{IsLeastAt, IsLastFrom, IsRaised}
-use Rattle.helix_rows.specs.Inner.Levels.{part_at, level_of, part_of, before_of, up_to, GoesOn, alive_at, AreAliveTo, AreBegunTo, IsAlive, IsLayout, IsLevel, IsReady, Agree, KeepRegions, ChangedIf}
+use Rattle.helix_rows.specs.Inner.Levels.{part_at, level_of, part_of, before_of, up_to, GoesOn, alive_at, AreAliveTo, AreBegunTo, IsAlive, IsLayout, IsLevel, Agree, KeepRegions, ChangedIf}
 use Rattle.helix_rows.specs.Inner.Numbers.{Listed}
-use Rattle.helix_rows.specs.Parts.{HasAt, IsInPart, IsInParts, IsRegionOver, AreRegionsOf}
-use Rattle.helix_rows.specs.Regions.{cell_at, number_at, piece, Begins, Continues, IsAskedFor, IsFirstChange, IsLeastOf, IsLeastStep, IsPieceOf}
+use Rattle.helix_rows.specs.Parts.{HasAt, IsInPart, IsInParts, AreRegionsOf}
+use Rattle.helix_rows.specs.Regions.{cell_at, number_at, piece, Begins, IsAskedFor, IsLeastOf, IsLeastStep, IsPieceOf}
 use Rattle.helix_rows.specs.declared.layout.Layout.{Layout}
 use Rattle.helix_rows.specs.declared.layout.Level.{Level}
 use Rattle.helix_rows.specs.declared.part.Part.{Part}
@@ -22,7 +20,6 @@ use Rattle.helix_rows.specs.declared.region.Question.TheVariants.{Start, After}
 use Rattle.helix_values.specs.Order.{CellLess}
 use Rattle.helix_values.specs.Slot.{FitsSlot}
 use Rattle.helix_values.specs.declared.cell.Cell.{Cell}
-use Rattle.helix_values.specs.declared.cell.Cell.TheVariants as cell
 
 -- sets of rows by number that have the same rows
 module _ (H G : ℕ → List Cell → Type 0) (layout : Layout) where
@@ -58,13 +55,13 @@ pub member_goes : (H : ℕ → List Cell → Type 0) (layout : Layout) (fields :
 member_goes H layout fields is field within row other member agree =
     let level : IsLevel layout.parts field (level_of layout field) = is.levels field within in
     let in_part : IsInPart H (part_of layout field).regions (piece (part_of layout field).fields other) =
-        member.each (level_of layout field).part (record { fields = []; regions = [] }) level.part in
+    member.each (level_of layout field).part (record { fields = []; regions = [] }) level.part in
     let count : ℕ = (level_of layout field).position + 1 in
     let cut : piece (part_of layout field).fields other
-        ≡ up_to layout field other ++ piece (drop count (part_of layout field).fields) other =
-        ap (λ fs. piece fs other) (sym (take-append-drop count (part_of layout field).fields))
-        ∙ map-append (λ f. cell_at other f) (take count (part_of layout field).fields)
-        (drop count (part_of layout field).fields) in
+    ≡ up_to layout field other ++ piece (drop count (part_of layout field).fields) other =
+    ap (λ fs. piece fs other) (sym (take-append-drop count (part_of layout field).fields))
+    ∙ map-append (λ f. cell_at other f) (take count (part_of layout field).fields)
+    (drop count (part_of layout field).fields) in
     record {
       rest = piece (drop ((level_of layout field).position + 1) (part_of layout field).fields) other;
       has = subst (λ cells. IsInPart H (part_of layout field).regions
@@ -87,8 +84,8 @@ module _ (H : ℕ → List Cell → Type 0) (layout : Layout) (fields : ℕ) (is
       by (inr differs) =
           let before : other < field = omega (arith, less, differs) in
           let same : up_to layout other new ≡ up_to layout other row =
-              up_to_same layout fields is other (omega (arith, before, within)) new row
-              (λ f inside. agree f (omega (arith, inside, before))) in
+          up_to_same layout fields is other (omega (arith, before, within)) new row
+          (λ f inside. agree f (omega (arith, inside, before))) in
           record {
             all = λ n listed begun. subst (λ ns. Contains ns n) (sym (others other before))
                 ((are other before).all n listed (subst (λ cells. Begins (H n) cells) same begun));
@@ -235,7 +232,7 @@ module _ {R : Type 0} (F : R → List ℕ) (Has : R → List Cell → Type 0)
   begun_by begun zero at =
       let part : Part = part_of layout field in
       let inside : 0 < length (part_of layout field).regions =
-          first_listed (part_of layout field).regions (some (level_of layout field).part _ level_here.part) in
+      first_listed (part_of layout field).regions (some (level_of layout field).part _ level_here.part) in
       let one = are.rows (level_of layout field).part (record { fields = []; regions = [] }) level_here.part 0 0 inside in
       record {
         rest = one.0;
@@ -249,12 +246,12 @@ module _ {R : Type 0} (F : R → List ℕ) (Has : R → List Cell → Type 0)
       let less : i < (level_of layout field).position = omega (arith, at) in
       let before : ℕ = number_at (part_of layout field).fields i in
       let earlier : before < field =
-          subst (λ f. number_at (part_of layout field).fields i < f) level_here.is
-          (is.rising (level_of layout field).part i (level_of layout field).position level_here.part less level_here.position) in
+      subst (λ f. number_at (part_of layout field).fields i < f) level_here.is
+      (is.rising (level_of layout field).part i (level_of layout field).position level_here.part less level_here.position) in
       let back : level_of layout before ≡ record { part = (level_of layout field).part; position = i } =
-          is.back (level_of layout field).part i level_here.part (omega (arith, less, level_here.position)) in
+      is.back (level_of layout field).part i level_here.part (omega (arith, less, level_here.position)) in
       let there : BegunAs (record { part = (level_of layout field).part; position = i }) =
-          subst BegunAs back (begun before earlier) in
+      subst BegunAs back (begun before earlier) in
       let more : i + 1 ≡ suc i = omega arith in
       subst (λ count. Begins (IsInPart (HasAt Has regions) (part_of layout field).regions)
       (piece (take count (part_of layout field).fields) row)) more there
@@ -277,15 +274,22 @@ module _ {R : Type 0} (F : R → List ℕ) (Has : R → List Cell → Type 0)
     where
       by : (rest : List Cell) → IsInPart (HasAt Has regions) (part_of layout field).regions (before_of layout field row ++ rest)
           → (c : Cell) × GoesOn (HasAt Has regions) layout field row c
-      by [] in_part = absurd (omega (arith, level_here.position,
-          sized _ in_part, length-append (before_of layout field row) [],
-          length-map (take (level_of layout field).position (part_of layout field).fields) (λ f. cell_at row f),
-          length-take-le (level_of layout field).position (part_of layout field).fields (omega (arith, level_here.position))))
-      by (c ∷ rest) in_part = (c, record {
-        rest = rest;
-        has = subst (IsInPart (HasAt Has regions) (part_of layout field).regions)
-            (sym (append_assoc (before_of layout field row) (c ∷ []) rest)) in_part;
-      })
+      by [] in_part = absurd (omega (
+        arith,
+        level_here.position,
+        sized _ in_part,
+        length-append (before_of layout field row) [],
+        length-map (take (level_of layout field).position (part_of layout field).fields) (λ f. cell_at row f),
+        length-take-le (level_of layout field).position (part_of layout field).fields (omega (arith, level_here.position)),
+      ))
+      by (c ∷ rest) in_part = (
+        c,
+        record {
+          rest = rest;
+          has = subst (IsInPart (HasAt Has regions) (part_of layout field).regions)
+              (sym (append_assoc (before_of layout field row) (c ∷ []) rest)) in_part;
+        },
+      )
 
 -- the first question always has an answer
 pub start_answers : (Has : Cell → Type 0) (yes : Bool) (old new : Cell) → (c : Cell) × Has c

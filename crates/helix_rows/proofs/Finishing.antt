@@ -1,21 +1,20 @@
 -- The row of a place once all of its fields have their cells.
-use Rattle.std.proofs.Common.{◌≡◌, ◌⊎◌, inl, inr, ℕ, zero, suc, ◌+◌, ◌<◌, ◌≤◌, Bool, true, false, List, [], ◌∷◌, ◌++◌, Option, None, Some, take, length, replicate, slice_index_or, refl, sym, ◌∙◌, ap, subst, ⊎_elim, arith}
+use Rattle.std.proofs.Common.{◌≡◌, ℕ, zero, suc, ◌+◌, ◌<◌, ◌≤◌, Bool, List, [], ◌∷◌, ◌++◌, None, Some, take, length, replicate, slice_index_or, refl, sym, ◌∙◌, ap, subst, arith}
 use Rattle.std.proofs.lemmas.List.{append-nil, take_all, get_or_default, length-append, length-map, nil_from_length, length-replicate}
 use Rattle.std.proofs.lemmas.List.Elements.{Contains-get_or, All-replicate}
-use Rattle.std.specs.List.{All, Contains}
+use Rattle.std.specs.List.{All}
 use Rattle.helix_rows.proofs.Asked.{some_region}
 use Rattle.helix_rows.proofs.Climbing.{member_goes, alive_now}
 use Rattle.helix_rows.proofs.Levels.{up_to_is}
-use Rattle.helix_rows.proofs.Regions.{has_new, has_old, in_parts_to}
+use Rattle.helix_rows.proofs.Regions.{has_new, in_parts_to}
 use Rattle.helix_rows.proofs.Rising.{least_row, next_row, changed_new}
-use Rattle.helix_rows.specs.Inner.Answers.{IsLeastAt, IsLastFrom, IsRaised}
-use Rattle.helix_rows.specs.Inner.Levels.{part_at, level_of, part_of, before_of, up_to, AreAliveTo, AreBegunTo, IsLayout, IsReady, Agree}
+use Rattle.helix_rows.specs.Inner.Answers.{IsLeastAt, IsRaised}
+use Rattle.helix_rows.specs.Inner.Levels.{part_at, level_of, part_of, AreAliveTo, AreBegunTo, IsLayout, IsReady, Agree}
 use Rattle.helix_rows.specs.Inner.Numbers.{Listed}
 use Rattle.helix_rows.specs.Inner.Places.{IsGiven, IsWalk, IsEmptyIf}
 use Rattle.helix_rows.specs.Parts.{HasAt, IsInPart, IsInParts, AreRegionsOf, KeepRegions, IsNextPlace}
 use Rattle.helix_rows.specs.Regions.{cell_at, number_at, piece, Begins, IsPieceOf}
 use Rattle.helix_rows.specs.declared.layout.Layout.{Layout}
-use Rattle.helix_rows.specs.declared.layout.Level.{Level}
 use Rattle.helix_rows.specs.declared.part.Part.{Part}
 use Rattle.helix_values.specs.Slot.{FitsSlot}
 use Rattle.helix_rows.specs.declared.walk.Place.{Place}
@@ -52,7 +51,7 @@ module _ {R : Type 0} (F : R → List ℕ) (Has : R → List Cell → Type 0)
   unfolding sized
   whole p inside cells long begins =
       let none : begins.rest ≡ [] = nil_from_length begins.rest
-          (omega (arith, long, sized p inside (cells ++ begins.rest) begins.has, length-append cells begins.rest)) in
+      (omega (arith, long, sized p inside (cells ++ begins.rest) begins.has, length-append cells begins.rest)) in
       subst (IsInPart (HasAt Has regions) (part_at layout.parts p).regions)
       (ap (λ rest. cells ++ rest) none ∙ append-nil cells) begins.has
 
@@ -81,7 +80,7 @@ module _ {R : Type 0} (F : R → List ℕ) (Has : R → List Cell → Type 0)
       let last : i < length (part_at layout.parts p).fields = omega (arith, count) in
       let field : ℕ = number_at (part_at layout.parts p).fields i in
       let back : level_of layout (number_at (part_at layout.parts p).fields i) ≡ record { part = p; position = i } =
-          is.back p i inside last in
+      is.back p i inside last in
       let begins = begun (number_at (part_at layout.parts p).fields i) (is.within p i inside last) in
       whole p inside (piece (part_at layout.parts p).fields row)
       (length-map (part_at layout.parts p).fields (λ f. cell_at row f))
@@ -106,9 +105,9 @@ module _ {R : Type 0} (F : R → List ℕ) (Has : R → List Cell → Type 0)
   unfolding begun_member
   given_after now kept alive are_alive long = (
     in_parts_to (HasAt Has regions) (HasAt Has now) (λ n cells. has_new F Has regions now kept n cells) (length row)
-    layout.parts row (subst (λ count. IsInParts (HasAt Has regions) count layout.parts row) (sym long) (begun_member long)),
+        layout.parts row (subst (λ count. IsInParts (HasAt Has regions) count layout.parts row) (sym long) (begun_member long)),
     alive_now F Has regions now kept layout row alive (length row)
-    (subst (λ end. AreAliveTo (HasAt Has regions) layout row alive end) (sym long) are_alive),
+        (subst (λ end. AreAliveTo (HasAt Has regions) layout row alive end) (sym long) are_alive),
   )
 
 -- a row that is least there is least in a set of fewer rows
@@ -160,7 +159,7 @@ given_stays F Has old new kept layout row same_row alive same_alive row_is alive
     subst (λ r. IsGiven (HasAt Has new) layout r same_alive Given) (sym row_is)
     (subst (λ a. IsGiven (HasAt Has new) layout row a Given) (sym alive_is) (
       in_parts_to (HasAt Has old) (HasAt Has new) (λ n cells. has_new F Has old new kept n cells) (length row)
-      layout.parts row given.0,
+          layout.parts row given.0,
       alive_now F Has old new kept layout row alive (length row) given.1,
     ))
 

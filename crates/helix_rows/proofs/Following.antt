@@ -1,5 +1,5 @@
 -- How far the cells of a row go on.
-use Rattle.std.proofs.Common.{◌≡◌, ◌⊎◌, inl, inr, ℕ, ◌+◌, ◌<◌, ◌≤◌, Bool, true, false, List, Option, None, Some, length, slice_set, refl, sym, ◌∙◌, ap, subst, ⊎_elim, arith}
+use Rattle.std.proofs.Common.{◌≡◌, ℕ, ◌+◌, ◌<◌, ◌≤◌, Bool, true, false, List, Option, None, Some, length, slice_set, sym, ◌∙◌, ap, subst, ⊎_elim, arith}
 use Rattle.std.proofs.lemmas.List.{set-get_or}
 use Rattle.helix_rows.proofs.CellOrder.{not_itself, not_back, either}
 use Rattle.helix_rows.proofs.Climbing.{member_goes, alive_same, begun_then}
@@ -108,6 +108,6 @@ module _ {R : Type 0} (F : R → List ℕ) (Has : R → List Cell → Type 0) (o
         },
         omega (arith, raised.1, within),
         alive_same (HasAt Has new) (HasAt Has old) layout (λ n cells. has_new F Has old new kept n cells) after alive
-        (field + 1) raised.2,
+            (field + 1) raised.2,
         λ f less. begun_then F Has old new kept layout _ _ (raised.3 f less),
       ))

@@ -1,5 +1,5 @@
 -- The levels of the fields of parts.
-use Rattle.std.proofs.Common.{◌≡◌, ◌⊎◌, inl, inr, ℕ, ◌+◌, ◌<◌, ◌≤◌, List, [], ◌∷◌, ◌++◌, take, length, slice_index_or, refl, sym, ◌∙◌, ap, subst, ⊎_elim, arith}
+use Rattle.std.proofs.Common.{◌≡◌, ℕ, ◌+◌, ◌<◌, List, [], ◌∷◌, ◌++◌, take, length, slice_index_or, refl, sym, ◌∙◌, ap, subst, arith}
 use Rattle.std.proofs.lemmas.List.Elements.{Contains-get_or}
 use Rattle.std.proofs.lemmas.List.{get_or-take, get_or_default, length-take-le, get_or_append_left, get_or_push}
 use Rattle.std.specs.List.{Any, Contains}
@@ -18,8 +18,13 @@ any_more P parts n d inside none not (k, part, less, is, holds) =
     let short : k < n + 1 = omega (arith, less, length-take-le (n + 1) parts (omega (arith, inside))) in
     let at : slice_index_or parts k part ≡ part = sym (get_or-take (n + 1) parts k part short) ∙ is in
     place k n
-    (λ before. none (k, part, omega (arith, before, length-take-le n parts (omega (arith, inside))),
-    get_or-take n parts k part before ∙ at, holds))
+    (λ before. none (
+      k,
+      part,
+      omega (arith, before, length-take-le n parts (omega (arith, inside))),
+      get_or-take n parts k part before ∙ at,
+      holds,
+    ))
     (λ e. not (subst P (get_or_default parts n part d inside)
     (subst P (sym (ap (λ i. slice_index_or parts i part) (sym e) ∙ at)) holds)))
     (λ after. omega (arith, after, short))
@@ -75,10 +80,10 @@ module _ (layout : Layout) (fields : ℕ) (parts : ArePartsOf fields layout.part
     unfolding rising
     position_by at same is =
         let inner_at : at.position < length (part_at layout.parts p).fields =
-            subst (λ q. at.position < length (part_at layout.parts q).fields) same is.position in
+        subst (λ q. at.position < length (part_at layout.parts q).fields) same is.position in
         let field_at : number_at (part_at layout.parts p).fields at.position ≡ number_at (part_at layout.parts p).fields i =
-            subst (λ q. number_at (part_at layout.parts q).fields at.position ≡ number_at (part_at layout.parts p).fields i)
-            same is.is in
+        subst (λ q. number_at (part_at layout.parts q).fields at.position ≡ number_at (part_at layout.parts p).fields i)
+        same is.is in
         place at.position i
         (λ less. absurd (omega (arith, field_at, rising p at.position i inside less inner)))
         (λ e. e)

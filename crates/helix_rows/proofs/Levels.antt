@@ -1,12 +1,12 @@
 -- The levels of fields: the cells before them, and the regions that are alive there.
-use Rattle.std.proofs.Common.{◌≡◌, ◌⊎◌, inl, inr, ℕ, zero, suc, ◌+◌, ◌<◌, ◌≤◌, Bool, true, false, List, [], ◌∷◌, ◌++◌, map, take, length, slice_index_or, slice_set, refl, sym, ◌∙◌, ap, subst, ⊎_elim, arith}
+use Rattle.std.proofs.Common.{◌≡◌, ℕ, zero, suc, ◌+◌, ◌<◌, ◌≤◌, Bool, true, false, List, [], ◌∷◌, ◌++◌, take, length, slice_index_or, slice_set, refl, sym, ◌∙◌, ap, subst, arith}
 use Rattle.std.proofs.lemmas.List.{take_more, map_push, append_assoc, get_or-set_other, get_or-set_same, set-get_or, get_or_default, length-take-le, get_or-take, length-set}
 use Rattle.std.proofs.lemmas.List.Elements.{All-set, Contains-get_or, Contains-push}
 use Rattle.std.specs.List.{All, Contains}
 use Rattle.helix_rows.proofs.Asked.{least_same}
-use Rattle.helix_rows.proofs.Found.{only_one, of_region}
+use Rattle.helix_rows.proofs.Found.{only_one}
 use Rattle.helix_rows.proofs.Regions.{has_new, has_old, over_new, in_part_to}
-use Rattle.helix_rows.specs.Inner.Answers.{Best, HasNone, IsFound, IsFoundIf, IsMarkFor}
+use Rattle.helix_rows.specs.Inner.Answers.{Best, IsFound, IsFoundIf, IsMarkFor}
 use Rattle.helix_rows.specs.Inner.Levels.{part_at, level_of, part_of, before_of, up_to, ChangedIf, OneIf, GoesOn, among_part, among_at, alive_at, AreAliveTo, IsAlive, IsLayout, IsLevel, IsReady, Agree, KeepRegions}
 use Rattle.helix_rows.specs.Inner.Numbers.{Listed}
 use Rattle.helix_rows.specs.Parts.{HasAt, IsInPart, IsRegionOver, AreRegionsOf}
@@ -108,12 +108,11 @@ module _ (layout : Layout) (fields : ℕ) (is : IsLayout layout fields) (field :
         let before : ℕ = number_at (part_of layout field).fields i in
         let here : IsAlive H layout row before (alive_at alive before) = are before (earlier i less) in
         let back : level_of layout before ≡ record { part = (level_of layout field).part; position = i } =
-            is.back (level_of layout field).part i level.part (omega (arith, less, level.position)) in
+        is.back (level_of layout field).part i level.part (omega (arith, less, level.position)) in
         let there : AliveAs (record { part = (level_of layout field).part; position = i }) before =
-            subst (λ at. AliveAs at before) back (here.all, here.only) in
-        (
+        subst (λ at. AliveAs at before) back (here.all, here.only) in (
           (λ n listed begun. there.0 n listed (subst (λ count. Begins (H n) (piece (take count (part_of layout field).fields) row))
-          (at ∙ omega arith) begun)),
+              (at ∙ omega arith) begun)),
           there.1,
         )
 
@@ -164,8 +163,8 @@ module _ (layout : Layout) (fields : ℕ) (is : IsLayout layout fields) (field :
     chosen_alive new numbers agree all only = record {
       all = λ n listed begun.
           let goes : Continues (H n) (before_of layout field row) (cell_at new field) =
-              subst (λ cells. Begins (H n) cells) (up_to_is new
-              ∙ ap (λ cells. cells ++ cell_at new field ∷ []) (before_same new row agree)) begun in
+          subst (λ cells. Begins (H n) cells) (up_to_is new
+          ∙ ap (λ cells. cells ++ cell_at new field ∷ []) (before_same new row agree)) begun in
           all n (among_all n listed (begins_fewer (H n) (before_of layout field row) (cell_at new field) goes)) goes;
       only = λ n listed. among_only n (only n listed);
     }
@@ -257,9 +256,12 @@ module _ {R : Type 0} (F : R → List ℕ) (Has : R → List Cell → Type 0) (l
       by (suc i) at =
           let here : IsLevel layout.parts field (level_of layout field) = is.levels field within in
           let inside : number_at (part_of layout field).fields i < length alive =
-              omega (arith, is.within (level_of layout field).part i here.part (omega (arith, at, here.position)), ready.count) in
-          omega (arith, ready.few _ (record { items = []; room = 0 }) inside,
-          ready.rooms _ (record { items = []; room = 0 }) inside)
+          omega (arith, is.within (level_of layout field).part i here.part (omega (arith, at, here.position)), ready.count) in
+          omega (
+            arith,
+            ready.few _ (record { items = []; room = 0 }) inside,
+            ready.rooms _ (record { items = []; room = 0 }) inside,
+          )
 
   -- each field of a part is one of the row
   pub fields_within : (field : ℕ) → IsLayout layout fields → field < fields
@@ -305,7 +307,7 @@ module _ (layout : Layout) (fields : ℕ) (is : IsLayout layout fields) (field :
       → Begins (H number) (before_of layout field row)
   one_begun begun =
       let own : Begins (H begun.has.number) (before_of layout field row) =
-          record { rest = begun.rest; has = begun.has.has } in
+      record { rest = begun.rest; has = begun.has.has } in
       subst (λ n. Begins (H n) (before_of layout field row))
       (sym (the_one begun.has.number begun.has.listed own)) own
 
@@ -315,7 +317,7 @@ module _ (layout : Layout) (fields : ℕ) (is : IsLayout layout fields) (field :
   one_from : (c : Cell) → GoesOn H layout field row c → Continues (H number) (before_of layout field row) c
   one_from c goes =
       let own : Continues (H goes.has.number) (before_of layout field row) c =
-          record { rest = goes.rest; has = goes.has.has } in
+      record { rest = goes.rest; has = goes.has.has } in
       subst (λ n. Continues (H n) (before_of layout field row) c)
       (sym (the_one goes.has.number goes.has.listed
       (begins_fewer (H goes.has.number) (before_of layout field row) c own))) own

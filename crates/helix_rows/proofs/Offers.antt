@@ -1,12 +1,12 @@
 -- One more region beside those that gave the least cell so far.
-use Rattle.std.proofs.Common.{◌≡◌, ◌⊎◌, inl, inr, ℕ, Bool, true, false, List, [], ◌∷◌, ◌++◌, refl, sym, ◌∙◌, ap, subst}
+use Rattle.std.proofs.Common.{◌≡◌, inl, inr, ℕ, Bool, true, false, List, [], ◌∷◌, ◌++◌, refl, sym, ◌∙◌, ap}
 use Rattle.std.specs.declared.cmp.Ordering.{Ordering}
-use Rattle.std.specs.declared.cmp.Ordering.TheVariants.{Less, Equal, Greater}
+use Rattle.std.specs.declared.cmp.Ordering.TheVariants.{Equal, Greater}
 use Rattle.helix_rows.proofs.CellOrder.{same_cell, less_from_greater}
 use Rattle.helix_rows.specs.Inner.Answers.{Best, IsOffered}
 use Rattle.helix_rows.specs.Regions.{IsLeastOf}
 use Rattle.helix_values.specs.Marks.{IsAdmitted}
-use Rattle.helix_values.specs.Order.{cell_cmp, CellLess}
+use Rattle.helix_values.specs.Order.{cell_cmp}
 use Rattle.helix_values.specs.declared.cell.Cell.{Cell}
 use Rattle.helix_values.specs.declared.mark.Mark.{Mark}
 use Rattle.helix_words.specs.Questions.{IsLeastAnswer}
@@ -34,8 +34,10 @@ module _ (Has : Cell → Type 0) (mark : Mark) (number : ℕ) (old : Best) (befo
     offered_equal tied numbers are = inr (
       answer,
       least_from Has mark true before answer refl given,
-      inr (inl (same_cell answer old.cell (sym tied_as ∙ tied),
-      ap with_numbers are)),
+      inr (inl (
+        same_cell answer old.cell (sym tied_as ∙ tied),
+        ap with_numbers are,
+      )),
     )
 
     pub offered_above : order ≡ Greater → ¬ (old.numbers ≡ []) → IsOffered Has (IsAdmitted mark) number old old

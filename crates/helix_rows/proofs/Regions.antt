@@ -1,12 +1,10 @@
 -- Questions that keep the regions.
-use Rattle.std.proofs.Common.{◌≡◌, ◌↔◌, ◌⊎◌, inl, inr, ℕ, ◌+◌, ◌<◌, ◌≤◌, List, take, length, slice_index_or, slice_set, refl, sym, ◌∙◌, ap, subst, arith, ⊎_elim}
+use Rattle.std.proofs.Common.{◌≡◌, ◌↔◌, ◌⊎◌, inl, inr, ℕ, ◌<◌, List, length, slice_index_or, slice_set, refl, sym, ◌∙◌, ap, subst, arith, ⊎_elim}
 use Rattle.std.proofs.lemmas.Bool.{cases_lt}
 use Rattle.std.proofs.lemmas.List.{get_or-set_same, get_or-set_other, length-set}
-use Rattle.std.proofs.lemmas.List.Sums.{sum_by-set}
-use Rattle.std.specs.List.{All, Contains, sum_by}
 use Rattle.helix_rows.specs.Inner.Levels.{KeepRegions}
-use Rattle.helix_rows.specs.Parts.{HasAt, IsInPart, IsRegionOver, AreRegionsOf, IsInParts}
-use Rattle.helix_rows.specs.Regions.{Begins, piece}
+use Rattle.helix_rows.specs.Parts.{HasAt, IsInPart, IsRegionOver, IsInParts}
+use Rattle.helix_rows.specs.Regions.{Begins}
 use Rattle.helix_rows.specs.declared.part.Part.{Part}
 use Rattle.helix_values.specs.declared.cell.Cell.{Cell}
 
@@ -45,16 +43,14 @@ module _ {R : Type 0} (F : R → List ℕ) (Has : R → List Cell → Type 0) wh
         × ((cells : List Cell) → Has (slice_index_or (slice_set old i region) n d) cells ↔ Has (slice_index_or old n d) cells)
     at n d within (inl e) =
         let now : slice_index_or (slice_set old i region) n d ≡ region =
-            ap (λ k. slice_index_or (slice_set old i region) k d) e ∙ get_or-set_same old i region d within_i in
-        (
+        ap (λ k. slice_index_or (slice_set old i region) k d) e ∙ get_or-set_same old i region d within_i in (
           ap F now ∙ (fields d ∙ ap (λ k. F (slice_index_or old k d)) (sym e)),
           λ cells. subst (λ k. Has (slice_index_or (slice_set old i region) n d) cells ↔ Has (slice_index_or old k d) cells)
-          (sym e) (subst (λ r. Has r cells ↔ Has (slice_index_or old i d) cells) (sym now) (rows d cells)),
+              (sym e) (subst (λ r. Has r cells ↔ Has (slice_index_or old i d) cells) (sym now) (rows d cells)),
         )
     at n d within (inr other) =
         let now : slice_index_or (slice_set old i region) n d ≡ slice_index_or old n d =
-            get_or-set_other old i n region d other in
-        (
+        get_or-set_other old i n region d other in (
           ap F now,
           λ cells. subst (λ r. Has r cells ↔ Has (slice_index_or old n d) cells) (sym now) ((λ has. has), (λ has. has)),
         )

@@ -1,14 +1,12 @@
 -- Rows by the first field in which they differ, and the next row of a set, field by field.
-use Rattle.std.proofs.Common.{◌≡◌, ◌⊎◌, inl, inr, ℕ, zero, suc, ◌+◌, ◌<◌, ◌≤◌, Bool, true, false, List, [], ◌∷◌, Option, None, Some, length, slice_set, refl, sym, ◌∙◌, ap, subst, ⊎_elim, arith}
+use Rattle.std.proofs.Common.{◌≡◌, ℕ, zero, suc, ◌+◌, ◌<◌, ◌≤◌, List, [], ◌∷◌, None, Some, length, refl, sym, ◌∙◌, ap, subst, ⊎_elim, arith}
 use Rattle.std.proofs.lemmas.Bool.{cases_lt}
 use Rattle.std.proofs.lemmas.Cmp.{tied_itself}
-use Rattle.std.proofs.lemmas.List.{ext_get_or, get_or-set_same, get_or-set_other, length-set}
 use Rattle.std.specs.Ordering.{ordering_then}
 use Rattle.std.specs.declared.cmp.Ordering.{Ordering}
 use Rattle.std.specs.declared.cmp.Ordering.TheVariants.{Less, Equal, Greater}
-use Rattle.helix_profile.specs.Answer.{IsAbove}
 use Rattle.helix_profile.specs.AscendingLaws.{not_back as rows_not_back}
-use Rattle.helix_rows.proofs.CellOrder.{same_cell, not_itself, not_back, either}
+use Rattle.helix_rows.proofs.CellOrder.{same_cell, not_itself}
 use Rattle.helix_rows.specs.Inner.Answers.{IsLeastAt, IsLastFrom, IsRaised}
 use Rattle.helix_rows.specs.Inner.Levels.{Agree}
 use Rattle.helix_rows.specs.Parts.{IsNextRow}
@@ -16,7 +14,6 @@ use Rattle.helix_rows.specs.Regions.{cell_at, IsFirstChange}
 use Rattle.helix_values.proofs.TotalOrder.{cell_cmp_total, row_cmp_total}
 use Rattle.helix_values.specs.Order.{cell_cmp, row_cmp, CellLess, RowLess}
 use Rattle.helix_values.specs.declared.cell.Cell.{Cell}
-use Rattle.helix_values.specs.declared.cell.Cell.TheVariants as cell
 
 -- equal heads leave the rest
 pub then_rest : (a b : Cell) (xs ys : List Cell) → a ≡ b → row_cmp (a ∷ xs) (b ∷ ys) ≡ row_cmp xs ys
@@ -39,17 +36,20 @@ first_change (a ∷ xs) (b ∷ ys) long less = by (λ same below. first_change x
   where
     greater_less : Greater ≡ Less → ⊥
     greater_less e = cc e
+
     by : (length xs ≡ length ys → RowLess xs ys → (field : ℕ) × IsFirstChange field xs ys) → (o : Ordering)
         → cell_cmp a b ≡ o → (field : ℕ) × IsFirstChange field (a ∷ xs) (b ∷ ys)
     by later Less is = (0, record { within = omega (arith, long); same = λ f inside. absurd (omega (arith, inside)); above = is })
     by later Equal is =
         let same : a ≡ b = same_cell a b is in
-        let rest = later (omega (arith, long)) (sym (then_rest a b xs ys same) ∙ less) in
-        (suc rest.0, record {
-          within = omega (arith, rest.1.within);
-          same = elim_first same rest.1.same;
-          above = rest.1.above;
-        })
+        let rest = later (omega (arith, long)) (sym (then_rest a b xs ys same) ∙ less) in (
+          suc rest.0,
+          record {
+            within = omega (arith, rest.1.within);
+            same = elim_first same rest.1.same;
+            above = rest.1.above;
+          },
+        )
       where
         elim_first : a ≡ b → {n : ℕ} → Agree n xs ys → Agree (suc n) (a ∷ xs) (b ∷ ys)
         elim_first same agree zero inside = same
@@ -161,6 +161,7 @@ module _ (In : List Cell → Type 0) (count : ℕ) (long : (row : List Cell) →
           where
             row_back : RowLess other old → ⊥
             row_back back = rows_not_back row_cmp_total old other above back
+
             at_field : IsFirstChange field other new → (m : ℕ) × IsFirstChange m old other → ⊥
             at_field here (m, first) =
                 let with_old : Agree field other old = agree_both field other new old here.same agree_old in

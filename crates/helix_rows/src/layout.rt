@@ -56,11 +56,7 @@ fn level_of(parts: &[Part], field: usize) -> Level
 }
 
 /// The levels of all fields.
-pub(crate) fn layout_of(
-    alloc: Global,
-    parts: List<Part>,
-    fields: usize,
-) -> Result<Layout, Memory>
+pub(crate) fn layout_of(alloc: Global, parts: List<Part>, fields: usize) -> Result<Layout, Memory>
     requires { ArePartsOf fields parts }
     ensures parts { IfOk result (λ layout. layout.parts ≡ parts) }
     ensures layout { IfOk result (λ layout. IsLayout layout fields) }

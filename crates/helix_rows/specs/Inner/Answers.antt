@@ -1,5 +1,5 @@
 -- What questions to several regions answer.
-use Rattle.std.specs.Prelude.{◌≡◌, ℕ, ◌+◌, ◌<◌, Bool, true, false, List, [], ◌∷◌, ◌++◌, ◌⊎◌, ◌↔◌}
+use Rattle.std.specs.Prelude.{◌≡◌, ℕ, ◌+◌, Bool, true, false, List, [], ◌∷◌, ◌++◌, ◌⊎◌, ◌↔◌}
 use Rattle.std.specs.List.{Contains}
 use Rattle.helix_rows.specs.Inner.Levels.{Agree}
 use Rattle.helix_rows.specs.Parts.{IsInPart}

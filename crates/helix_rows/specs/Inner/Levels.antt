@@ -8,7 +8,6 @@ use Rattle.helix_rows.specs.Regions.{cell_at, number_at, piece, Begins, Continue
 use Rattle.helix_rows.specs.declared.layout.Layout.{Layout}
 use Rattle.helix_rows.specs.declared.layout.Level.{Level}
 use Rattle.helix_rows.specs.declared.part.Part.{Part}
-use Rattle.helix_values.specs.Order.{CellLess}
 use Rattle.helix_values.specs.declared.cell.Cell.{Cell}
 
 -- the part with a number, the level of a field, and the field's part

@@ -1,4 +1,4 @@
-use Rattle.std.proofs.Common.{rules, ◌≡◌, ◌⊎◌, ℕ, ◌+◌, ◌<◌, ◌≤◌, true, length, refl, sym, ◌∙◌, ap, subst, ⊎_elim, arith}
+use Rattle.std.proofs.Common.{length, sym, ◌∙◌, subst, ⊎_elim, arith}
 use Rattle.helix_rows.proofs.Asked.{steps_both}
 use Rattle.helix_rows.proofs.Climbing.{alive_now, alive_then, begun_now, answer_then, alive_more, begun_more, others_same, fit_changed, begun_at, goes_somewhere, start_answers, least_at, least_before}
 use Rattle.helix_rows.proofs.Levels.{agree_changed, long_changed, step_has}
@@ -45,7 +45,7 @@ loop-field-preserved g c =
       same = λ f less. agree f (omega (arith, less)) ∙ c.loop-field.invariant.same f less;
       least = λ f from less. ⊎_elim
           (λ e. subst (λ k. IsLeastAt (IsInParts (HasAt g.R.Region.HasRow c.args.state.now.regions.items) (length c.args.state.now.row)
-    c.args.layout.now.parts) c.ask.new.state.row k) (sym e)
+          c.args.layout.now.parts) c.ask.new.state.row k) (sym e)
           (least_at (HasAt g.R.Region.HasRow c.args.state.now.regions.items) c.args.layout.now (length c.args.state.now.row)
           c.requires.layout c.loop-field.field (omega (arith, c.loop-field-test.true, c.len-count.ensures)) c.loop-field.state.row c.loop-field.invariant.long
           c.ask.new.state.row agree least))
@@ -60,7 +60,7 @@ loop-field-preserved g c =
           (others_same c.ask.result c.loop-field.state.alive.items c.ask.new.state.alive.items c.loop-field.field _
           c.ask.ensures.alive)
           (alive_then g.R.Region.fields g.R.Region.HasRow c.args.state.now.regions.items c.loop-field.state.regions.items
-    c.loop-field.invariant.kept c.args.layout.now c.loop-field.field
+          c.loop-field.invariant.kept c.args.layout.now c.loop-field.field
           c.ask.new.state.row _ (c.ask.ensures.chosen is));
       begun = begun_more (HasAt g.R.Region.HasRow c.args.state.now.regions.items) c.args.layout.now (length c.args.state.now.row)
           c.requires.layout c.loop-field.field (omega (arith, c.loop-field-test.true, c.len-count.ensures)) c.loop-field.state.row c.ask.new.state.row agree

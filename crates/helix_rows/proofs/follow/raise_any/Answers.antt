@@ -1,4 +1,4 @@
-use Rattle.std.proofs.Common.{◌≡◌, ◌+◌, sym, subst}
+use Rattle.std.proofs.Common.{sym, subst}
 use Rattle.helix_rows.proofs.Climbing.{alive_now}
 use Rattle.helix_rows.proofs.Following.{raised_then}
 use Rattle.helix_rows.specs.Inner.Levels.{AreAliveTo}

@@ -1,4 +1,4 @@
-use Rattle.std.proofs.Common.{rules, ◌≡◌, sym, subst}
+use Rattle.std.proofs.Common.{sym, subst}
 use Rattle.std.specs.List.{Contains}
 use Rattle.helix_rows.proofs.Layouts.{any_more}
 use Rattle.helix_rows.proofs.layout.level_of.Goals as goal

@@ -1,4 +1,4 @@
-use Rattle.std.proofs.Common.{◌≡◌, take}
+use Rattle.std.proofs.Common.{take}
 use Rattle.std.specs.List.{Any, Contains}
 use Rattle.helix_rows.proofs.layout.level_of.Given as goal
 

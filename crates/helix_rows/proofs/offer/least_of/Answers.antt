@@ -1,7 +1,5 @@
-use Rattle.std.proofs.Common.{rules, ◌≡◌, refl, ap, sym, ◌∙◌, arith}
-use Rattle.std.proofs.lemmas.List.Sums.{sum_by-set}
+use Rattle.std.proofs.Common.{rules, refl}
 use Rattle.helix_rows.proofs.Asked.{comparable_best, best_next, kept_next, asked_next, fits_found, steps_both}
-use Rattle.helix_rows.proofs.Regions.{kept_both, kept_one}
 use Rattle.helix_rows.specs.Inner.Answers.{best_of}
 use Rattle.helix_rows.specs.Inner.Levels.{part_of, level_of}
 use Rattle.helix_values.specs.Marks.{IsAdmitted}
@@ -22,7 +20,7 @@ loop-number-preserved g c = record {
       kept_next g.R.Region.fields g.R.Region.HasRow c.args.regions.now.items c.loop-number.regions.items
       c.loop-number.invariant.kept c.args.among.now (part_of c.args.layout.now c.args.field).fields c.requires.regions
       c.loop-number.number-index c.loop-number-test.true c.index_mut.result.now c.index_mut.ensures.value
-    c.args.row.now
+      c.args.row.now
       (level_of c.args.layout.now c.args.field).position (level_of c.args.layout.now c.args.field).position refl (IsAdmitted c.args.mark)
       (best_of c.loop-number.found) c.loop-number.invariant.best c.offer.new.region c.offer.ensures.fields
       c.offer.ensures.rows;
@@ -30,7 +28,7 @@ loop-number-preserved g c = record {
       best_next g.R.Region.fields g.R.Region.HasRow c.args.regions.now.items c.loop-number.regions.items
       c.loop-number.invariant.kept c.args.among.now (part_of c.args.layout.now c.args.field).fields c.requires.regions
       c.loop-number.number-index c.loop-number-test.true c.index_mut.result.now c.index_mut.ensures.value
-    c.args.row.now
+      c.args.row.now
       (level_of c.args.layout.now c.args.field).position _ (search rules) (IsAdmitted c.args.mark)
       (best_of c.loop-number.found) c.loop-number.invariant.best (best_of c.offer.new.found) c.offer.ensures.offered;
   room = search rules;
@@ -38,7 +36,7 @@ loop-number-preserved g c = record {
       asked_next g.R.Region.fields g.R.Region.HasRow c.args.regions.now.items c.loop-number.regions.items
       c.loop-number.invariant.kept c.args.among.now (part_of c.args.layout.now c.args.field).fields c.requires.regions
       c.loop-number.number-index c.loop-number-test.true c.index_mut.result.now c.index_mut.ensures.value
-    c.args.row.now
+      c.args.row.now
       (level_of c.args.layout.now c.args.field).position (level_of c.args.layout.now c.args.field).position refl (IsAdmitted c.args.mark)
       (best_of c.loop-number.found) c.loop-number.invariant.best g.R.Region.asked c.offer.new.region
       c.offer.ensures.asked c.loop-number.invariant.asked;

@@ -1,4 +1,4 @@
-use Rattle.std.proofs.Common.{rules, ◌≡◌, ap, take}
+use Rattle.std.proofs.Common.{rules, ap, take}
 use Rattle.helix_rows.proofs.Offers.{offered_equal, offered_above}
 use Rattle.helix_rows.specs.Inner.Answers.{best_of}
 use Rattle.helix_rows.specs.Regions.{piece, Continues}

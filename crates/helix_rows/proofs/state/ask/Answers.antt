@@ -1,8 +1,8 @@
-use Rattle.std.proofs.Common.{rules, ◌≡◌, ℕ, true, false, [], ◌∷◌, length, slice_index_or, slice_set, refl, sym, ◌∙◌, ap, subst, arith}
+use Rattle.std.proofs.Common.{rules, length, slice_index_or, sym, ◌∙◌, ap, subst, arith}
 use Rattle.std.proofs.lemmas.List.{length-set}
 use Rattle.helix_rows.proofs.Asked.{fits_found}
 use Rattle.helix_rows.proofs.Levels.{among_answer, among_few, chosen_alive, one_answer, one_alive, one_begun, one_listed, over_part, changed_if, step_stays, step_has, found_has, agree_set, agree_changed, single, chosen_one, ready_kept, ready_one}
-use Rattle.helix_rows.specs.Inner.Levels.{among_at, before_of, part_of, alive_at, GoesOn, IsReady, IsAlive, Agree}
+use Rattle.helix_rows.specs.Inner.Levels.{among_at, before_of, part_of, alive_at, IsReady, IsAlive, Agree}
 use Rattle.helix_rows.specs.Parts.{HasAt}
 use Rattle.helix_rows.specs.Regions.{cell_at}
 use Rattle.helix_rows.proofs.state.ask.Goals as goal

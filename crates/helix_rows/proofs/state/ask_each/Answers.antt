@@ -1,4 +1,4 @@
-use Rattle.std.proofs.Common.{rules, ◌≡◌, ℕ, true, length, slice_set, sym, ◌∙◌, ap, subst, arith}
+use Rattle.std.proofs.Common.{rules, true, length, slice_set, sym, ◌∙◌, ap, subst, arith}
 use Rattle.helix_rows.proofs.Levels.{over_among, fields_within, among_few, among_only, compared, ready_kept, ready_set, found_marked, found_moved}
 use Rattle.helix_rows.specs.Inner.Answers.{best_of}
 use Rattle.helix_rows.specs.Inner.Levels.{among_at, before_of, IsReady}

@@ -1,4 +1,4 @@
-use Rattle.std.proofs.Common.{rules, ◌≡◌, ◌≤◌, length, sym, ◌∙◌, ap, subst}
+use Rattle.std.proofs.Common.{◌≤◌, length, ap, subst}
 use Rattle.std.specs.List.{All}
 use Rattle.helix_rows.proofs.Finishing.{opened}
 use Rattle.helix_rows.proofs.walk.RowWalk.open.Goals as goal

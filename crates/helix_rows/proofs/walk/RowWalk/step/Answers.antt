@@ -1,4 +1,4 @@
-use Rattle.std.proofs.Common.{rules, ◌≡◌, ℕ, ◌+◌, ◌<◌, ◌≤◌, true, false, List, Some, None, length, refl, sym, ◌∙◌, ap, subst, arith}
+use Rattle.std.proofs.Common.{◌+◌, ◌<◌, Some, length, refl, sym, ◌∙◌, subst, arith}
 use Rattle.helix_rows.proofs.Climbing.{alive_now, begun_now}
 use Rattle.helix_rows.proofs.Finishing.{member_begun, begun_member, given_after, given_stays, least_fewer, next_from_nothing, next_from_row, walk_after}
 use Rattle.helix_rows.proofs.Regions.{has_new, has_old, in_parts_to}
