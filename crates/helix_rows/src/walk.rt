@@ -1,10 +1,10 @@
 //! The walk over the rows of disjoint parts.
 
-ghost use Rattle.std.specs.Prelude.{◌≡◌, ◌<◌, ◌≤◌, ℕ, ◌≢◌, List, Some, None, length, min, IfSome, IfNone, IfOk, All};
+ghost use Rattle.std.specs.Prelude.{◌≡◌, ◌<◌, ◌≤◌, ℕ, ◌≢◌, List, Some, None, length, min, true, false, IfSome, IfNone, IfOk, All};
 ghost use Rattle.std.specs.List.{sum_by};
 ghost use Rattle.helix_base.specs.Count.{last_count};
 ghost use Rattle.helix_rows.specs.Regions.{NoneFalls};
-ghost use Rattle.helix_rows.specs.Parts.{InWalk, IsNextPlace, IsAtEnd, KeepsParts, ArePartsOf, AreRegionsOf};
+ghost use Rattle.helix_rows.specs.Parts.{InWalk, IsNextPlace, IsNextRow, IsAtEnd, KeepsParts, ArePartsOf, AreRegionsOf};
 ghost use Rattle.helix_rows.specs.Inner.Places.{IsWalk, place_of};
 ghost use Rattle.helix_values.specs.Slot.{FitsSlot};
 
@@ -141,6 +141,25 @@ impl<R: Region> RowWalk<R> {
                     None => None,
                 }
             }
+        }
+    }
+
+    /// Makes the next row the place and copies it. Where there is none, the copy is unchanged.
+    pub fn advance<L: Ledger>(&mut self, out: &mut RowBuf, steps: &mut Steps<L>) -> bool
+        requires { length out.old ≡ self.old.fields }
+        ensures next { result ≡ true → (self.new.place ≡ Some out.new)
+            × IsNextRow (InWalk R.HasRow self.old) self.old.place out.new }
+        ensures end { result ≡ false → (out.new ≡ out.old)
+            × IsAtEnd (InWalk R.HasRow self.old) self.old.place self.new.place }
+        ensures parts { KeepsParts R.fields R.HasRow self.old self.new }
+        ensures steps { NoneFalls steps.old.counts steps.new.counts }
+    {
+        match self.step(steps) {
+            Some(_) => {
+                copy_row(&self.state.row, out);
+                true
+            }
+            None => false,
         }
     }
 
