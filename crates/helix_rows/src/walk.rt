@@ -186,4 +186,22 @@ impl<R: Region> RowWalk<R> {
     {
         &self.state.row
     }
+
+    /// How many questions the regions were asked, together, up to 2^64 - 1.
+    pub fn asked(&self) -> u64
+        ensures { result ≡ min (sum_by R.asked self.now.regions) last_count }
+    {
+        asked_of(self.state.regions.as_slice())
+    }
+}
+
+/// How many questions regions were asked, together.
+fn asked_of<R: Region>(regions: &[R]) -> u64
+    ensures { result ≡ min (sum_by R.asked regions.now) last_count }
+{
+    let mut total: u64 = 0;
+    for region in regions {
+        total = total.saturating_add(region.asked());
+    }
+    total
 }
