@@ -1,0 +1,11 @@
+pub mod Asked
+pub mod CellOrder
+pub mod Climbing
+pub mod Finishing
+pub mod Following
+pub mod Found
+pub mod Layouts
+pub mod Levels
+pub mod Offers
+pub mod Regions
+pub mod Rising

@@ -1,0 +1,5 @@
+pub mod Numbers
+pub mod Levels
+pub mod Answers
+pub mod Places
+pub mod Following
