@@ -5,7 +5,7 @@ use Rattle.std.proofs.lemmas.List.{get_or-map, get_or_past, length-map, take_all
 use Rattle.std.proofs.lemmas.List.FromFn.{get_or-range_with_len, length-range_with_len}
 use Rattle.std.proofs.lemmas.Option.{get_or_from_slice_get, slice_get_within}
 use Rattle.std.specs.List.{All, range_with_len}
-use Rattle.helix_forest.proofs.Closed.{not_after, not_before}
+use Rattle.helix_forest.specs.Closed.{not_after, not_before}
 use Rattle.helix_forest.proofs.TreeSteps.{alone, closes_here, on_a_line, on_two_trees}
 use Rattle.helix_forest.specs.Closing.{AreLinked, ClosesCycle, HasEndsBelow, IsFirstToClose}
 use Rattle.helix_forest.specs.Inner.Trees.{AreOwn, AreTreesOf, IsRelabelled, other_label}

@@ -6,7 +6,7 @@ use Rattle.helix_constraints.specs.declared.role.Role.{Role}
 use Rattle.helix_constraints.specs.declared.role.Role.TheVariants as role
 use Rattle.helix_fields.specs.Fields.{IsNowhere}
 use Rattle.helix_forest.specs.Closing.{IsFirstToClose}
-use Rattle.helix_forest.proofs.Joins.{no_new_cycle}
+use Rattle.helix_forest.specs.Joins.{no_new_cycle}
 use Rattle.helix_json.specs.Values.{HasNoRepeatedKey}
 use Rattle.helix_json.specs.declared.value.Json.{Json}
 use Rattle.helix_keywords.specs.Forms.{form_of}
