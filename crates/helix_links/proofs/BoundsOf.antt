@@ -1,7 +1,6 @@
 -- The bounds of relations say what the relations say.
 use Rattle.std.proofs.Common.{◌≡◌, ◌↔◌, ℕ, ◌+◌, ◌<◌, ◌≤◌, ℤ, List, ◌∷◌, [], ◌++◌, length, get_or, take, refl, sym, subst, arith}
 use Rattle.std.specs.List.{All}
-use Rattle.std.proofs.lemmas.Int.{ints}
 use Rattle.std.proofs.lemmas.List.{get_or_default, take_all}
 use Rattle.helix_ladders.specs.declared.offset.Offset.{Offset}
 use Rattle.helix_ladders.specs.declared.offset.Offset.TheVariants.{Plain, Months, Years, WorkingDays}
@@ -16,7 +15,6 @@ use Rattle.helix_profile.specs.declared.relation.Relation.{Relation}
 use Rattle.helix_pairs.specs.Ends.{EndsRelated, IsByUnits}
 use Rattle.helix_pairs.specs.OffsetShift.{applied_by}
 use Rattle.helix_pairs.specs.Related.{AreRelated}
-use Rattle.helix_pairs.specs.ShiftOf.{IsShiftOf}
 use Rattle.helix_pairs.specs.declared.bound.Bound.{Bound}
 use Rattle.helix_pairs.specs.declared.comparison.End.{End}
 use Rattle.helix_pairs.specs.declared.comparison.End.TheVariants.{Left, Right}
@@ -24,31 +22,9 @@ use Rattle.helix_pairs.specs.declared.offset_shift.OffsetShift.{OffsetShift}
 use Rattle.helix_links.specs.declared.quantity.Quantity.{Quantity}
 use Rattle.helix_links.specs.declared.quantity.Quantity.TheVariants.{Numbers, Moments}
 use Rattle.helix_links.specs.declared.sided.SidedRelation.{SidedRelation}
-use Rattle.helix_links.specs.Quantities.{class_of_quantity, least_of, greatest_of, cell_in}
+use Rattle.helix_links.specs.Quantities.{class_of_quantity, cell_in}
 use Rattle.helix_links.specs.Relations.{RelatedFrom, IsMet, IsRelationOf}
 use Rattle.helix_links.proofs.Walks.{all_push, all_more, all_none}
-
--- the offset of a relation shifts the values of its class
-pub is_shift_of : (q : Quantity) (low high : ℤ) (offset : Offset) (right : Kind) → low ≡ least_of q
-    → high ≡ greatest_of q → IsOffsetFor right (class_of_quantity q) offset → IsShiftOf low high offset
-is_shift_of Numbers low high (Plain units) right is_low is_high in_range = (
-  omega (arith, ints, is_low, is_high),
-  omega (arith, ints, is_low),
-  omega (arith, ints, is_high),
-  omega (arith, in_range),
-)
-is_shift_of Moments low high (Plain units) right is_low is_high in_range = (
-  omega (arith, ints, is_low, is_high),
-  omega (arith, ints, is_low),
-  omega (arith, ints, is_high),
-  omega (arith, in_range),
-)
-is_shift_of Moments low high (Months count) right is_low is_high in_range = (is_low, is_high, in_range.1)
-is_shift_of Moments low high (Years count) right is_low is_high in_range = (is_low, is_high, in_range.1)
-is_shift_of Moments low high (WorkingDays count) right is_low is_high in_range = (is_low, is_high, in_range.1)
-is_shift_of Numbers low high (Months count) right is_low is_high in_range = absurd in_range
-is_shift_of Numbers low high (Years count) right is_low is_high in_range = absurd in_range
-is_shift_of Numbers low high (WorkingDays count) right is_low is_high in_range = absurd in_range
 
 -- the offset of a number is by units
 is_by_units : (right : Kind) (offset : Offset) → IsOffsetFor right numbers offset → IsByUnits offset

@@ -32,3 +32,6 @@ pub use offset_link::OffsetLink;
 pub use pair_link::PairLink;
 pub use quantity::Quantity;
 pub use sided::SidedRelation;
+
+#[cfg(test)]
+mod tests;
