@@ -40,7 +40,10 @@ pub after_same : (link : EqualityLink) (p : Cell) (child : CellRef) (o : Orderin
     → IsExclusion (class_of_equality link) (IsOther link p) (cell_of child) (Until (After child))
 after_same link p child o compared is of_v told =
     let same : p ≡ cell_of child = cell_cmp-IsAntisymmetric p (cell_of child) (sym compared ∙ equal_index o is) in (
-      (value_is_bound (class_of_equality link) (cell_of child) of_v, value_fits (class_of_equality link) (cell_of child) of_v),
+      (
+        value_is_bound (class_of_equality link) (cell_of child) of_v,
+        value_fits (class_of_equality link) (cell_of child) of_v,
+      ),
       never_less (cell_of child),
       λ w of_w from other. elim (cases_cell (cell_of child) w) [
         | inl before ↦ before

@@ -20,7 +20,8 @@ use Rattle.helix_links.specs.Quantities.{class_of_quantity, least_of, greatest_o
 use Rattle.helix_links.specs.WholeLaws.{whole_in_range, from_whole, wholes_rise}
 
 -- the cell of a whole number can be the bound of a mark
-can_be_bound : (q : Quantity) (from : ℤ) → IsMarkBound (class_of_quantity q) (cell_in q from) × FitsSlot (cell_in q from)
+can_be_bound : (q : Quantity) (from : ℤ)
+    → IsMarkBound (class_of_quantity q) (cell_in q from) × FitsSlot (cell_in q from)
 can_be_bound Numbers from = (refl, tt)
 can_be_bound Moments from = (refl, tt)
 

@@ -37,6 +37,27 @@ module _ {G : Ghosts OffsetShift} where
   abbrev pub Spares : List (Bound OffsetShift G) → ℤ → ℤ → Type 0
   Spares bounds p v = All (λ b. ¬ bound.IsExcluded b.comparison b.child (applied_by b.shift) p v) bounds
 
+  related_one : (b : Bound OffsetShift G) (p v : ℤ)
+      → AreRelated b.comparison b.child (applied_by b.shift) p v
+      ↔ (bound.MeetsLower b.comparison b.child (applied_by b.shift) p v
+      × bound.MeetsUpper b.comparison b.child (applied_by b.shift) p v
+      × (¬ bound.IsExcluded b.comparison b.child (applied_by b.shift) p v))
+  related_one b p v = related_by_bounds b.comparison b.child (applied_by b.shift) p v
+
+  -- all relations hold where the child meets all bounds and none excludes it
+  pub related_all : (bounds : List (Bound OffsetShift G)) (p v : ℤ)
+      → All (λ b. AreRelated b.comparison b.child (applied_by b.shift) p v) bounds
+      ↔ (Lowers bounds p v × Uppers bounds p v × Spares bounds p v)
+  related_all bounds p v = (
+    (λ all. (
+      λ k d within. ((related_one (slice_index_or bounds k d) p v).0 (all k d within)).0,
+      λ k d within. ((related_one (slice_index_or bounds k d) p v).0 (all k d within)).1,
+      λ k d within. ((related_one (slice_index_or bounds k d) p v).0 (all k d within)).2,
+    )),
+    (λ parts k d within. (related_one (slice_index_or bounds k d) p v).1
+        (parts.0 k d within, parts.1 k d within, parts.2 k d within)),
+  )
+
   module _ (q : Quantity) (asked own : List (Bound OffsetShift G)) (same : asked ≡ own) (low high : ℤ)
       (is_low : low ≡ least_of q) (is_high : high ≡ greatest_of q) where
     pub lower_mark : (p : ℤ) (parent : Cell) (answer : Option ℤ) (mark : Option Mark) → p ≡ whole_of parent
@@ -85,7 +106,8 @@ module _ {G : Ghosts OffsetShift} where
         until_excluded mark those =
             excluded_until q (Spares own (whole_of parent)) child v high of_v is_v is_high next
             (own_excluded (pairs.Before next) excluded) mark
-            (subst (λ n. AreThoseAdmitted (class_of_quantity q) (λ w. IsFrom (Some n) (whole_of w)) (Some mark)) is those)
+            (subst (λ n. AreThoseAdmitted (class_of_quantity q) (λ w. IsFrom (Some n) (whole_of w)) (Some mark)) is
+            those)
 
         pub past_excluded : AreThoseAdmitted (class_of_quantity q) (λ w. IsFrom (Some told) (whole_of w)) None
             → IsExclusion (class_of_quantity q) (λ w. Spares own (whole_of parent) (whole_of w)) child Rest
@@ -107,11 +129,12 @@ offset_stands link q class relations is met p v of_p of_v =
     (subst (λ x. Stands MeetsLower MeetsUpper IsAllowed (ByOffset link) p v
     ↔ All (λ sided. IsMet sided (cell_in q (whole_of p)) x) relations)
     (sym (is_cell_in q v (subst (λ c. IsValue c v) is of_v))) (
-      (λ stands. (met (whole_of p) (whole_of v)).0 (λ k d within.
-          (related_by_bounds (slice_index_or link.bounds k d).comparison (slice_index_or link.bounds k d).child (applied_by (slice_index_or link.bounds k d).shift) (whole_of p) (whole_of v)).1 (stands.lower k d within, stands.upper k d within, stands.allowed k d within))),
-      (λ all. let related = (met (whole_of p) (whole_of v)).1 all in record {
-        lower = λ k d within. ((related_by_bounds (slice_index_or link.bounds k d).comparison (slice_index_or link.bounds k d).child (applied_by (slice_index_or link.bounds k d).shift) (whole_of p) (whole_of v)).0 (related k d within)).0;
-        upper = λ k d within. ((related_by_bounds (slice_index_or link.bounds k d).comparison (slice_index_or link.bounds k d).child (applied_by (slice_index_or link.bounds k d).shift) (whole_of p) (whole_of v)).0 (related k d within)).1;
-        allowed = λ k d within. ((related_by_bounds (slice_index_or link.bounds k d).comparison (slice_index_or link.bounds k d).child (applied_by (slice_index_or link.bounds k d).shift) (whole_of p) (whole_of v)).0 (related k d within)).2;
-      }),
+      (λ stands. (met (whole_of p) (whole_of v)).0 ((related_all link.bounds (whole_of p) (whole_of v)).1
+          (stands.lower, stands.upper, stands.allowed))),
+      (λ all. let parts = (related_all link.bounds (whole_of p) (whole_of v)).0
+          ((met (whole_of p) (whole_of v)).1 all) in record {
+            lower = parts.0;
+            upper = parts.1;
+            allowed = parts.2;
+          }),
     ))

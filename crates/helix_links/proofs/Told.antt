@@ -96,7 +96,8 @@ module _ (texts equal different : Bool) (relations : List SidedRelation) (i : �
   told_minus now_equal now_different stays is minus =
       subst (λ e. IsToldOf texts e now_different relations (i + 1)) (sym stays)
       (subst (λ e. IsToldOf texts equal e relations (i + 1)) (sym is)
-      (λ p v of_p of_v. told_different_more texts p v of_p of_v relations i (get_or relations i d) equal different within
+      (λ p v of_p of_v. told_different_more texts p v of_p of_v relations i (get_or relations i d) equal different
+      within
       (get_or_default relations i d (get_or relations i d) within) (told p v of_p of_v) minus))
 
 pub told_all : (texts equal different : Bool) (relations : List SidedRelation) (count : ℕ)

@@ -23,7 +23,8 @@ MeetsUpperBounds link parent child =
 -- and none of them excludes it
 abbrev pub MeetsNoExclusion : OffsetLink → Cell → Cell → Type 0
 MeetsNoExclusion link parent child =
-    All (λ b. ¬ bound.IsExcluded b.comparison b.child (applied_by b.shift) (whole_of parent) (whole_of child)) link.bounds
+    All (λ b. ¬ bound.IsExcluded b.comparison b.child (applied_by b.shift) (whole_of parent) (whole_of child))
+    link.bounds
 
 -- the class of the values of both fields
 abbrev pub class_of_link : PairLink → Class

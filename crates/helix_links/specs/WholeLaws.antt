@@ -21,8 +21,14 @@ int_from a b = by (int_cmp a b) refl
 
     by : (o : Ordering) → int_cmp a b ≡ o → (b ≤ℤ a) ↔ (¬ (int_cmp a b ≡ Less))
     by Less e = ((λ from less. omega (arith, ints, from, ranked Less e)), (λ never. absurd (never e)))
-    by Equal e = ((λ from less. omega (arith, ints, from, ranked Less less, ranked Equal e)), (λ never. omega (arith, ints, ranked Equal e)))
-    by Greater e = ((λ from less. omega (arith, ints, from, ranked Less less)), (λ never. omega (arith, ints, ranked Greater e)))
+    by Equal e = (
+      (λ from less. omega (arith, ints, from, ranked Less less, ranked Equal e)),
+      (λ never. omega (arith, ints, ranked Equal e)),
+    )
+    by Greater e = (
+      (λ from less. omega (arith, ints, from, ranked Less less)),
+      (λ never. omega (arith, ints, ranked Greater e)),
+    )
 
 -- a value is the cell of its whole number, which is in the range
 pub is_cell_in : (q : Quantity) (v : Cell) → IsValue (class_of_quantity q) v → v ≡ cell_in q (whole_of v)

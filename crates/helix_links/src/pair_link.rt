@@ -32,7 +32,8 @@ impl PairLink {
     pub fn of(alloc: Global, kind: Kind, relations: &[SidedRelation]) -> Result<PairLink, Memory>
         requires { All (λ sided. IsRelationOf (class_of_kind kind) sided.relation) relations.now }
         ensures class { IfOk result (λ link. class_of_link link ≡ class_of_kind kind) }
-        ensures met { IfOk result (λ link. (p v : Cell) → IsValue (class_of_kind kind) p → IsValue (class_of_kind kind) v
+        ensures met { IfOk result (λ link. (p v : Cell) → IsValue (class_of_kind kind) p
+            → IsValue (class_of_kind kind) v
             → Stands MeetsLower MeetsUpper IsAllowed link p v ↔ All (λ sided. IsMet sided p v) relations.now) }
     {
         match kind {

@@ -7,7 +7,8 @@ use Rattle.helix_links.proofs.offsets.bounds_of.Goals as goal
 
 pub loop-sided-init : goal.loop-sided-init
 loop-sided-init c = record {
-  in_range = subst (All (IsBoundIn c.args.quantity)) (sym c.new-bounds.ensures) (λ k d within. absurd (omega (arith, within)));
+  in_range = subst (All (IsBoundIn c.args.quantity)) (sym c.new-bounds.ensures)
+      (λ k d within. absurd (omega (arith, within)));
   met = none_met c.args.quantity c.args.relations.now c.new-bounds.result c.new-bounds.ensures;
 }
 
