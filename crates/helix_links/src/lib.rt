@@ -4,7 +4,7 @@
 //! ```text
 //! let after = SidedRelation { relation, sign: true, child: End::Left };  // the child is the relation's left end
 //! let link = PairLink::of(alloc, Kind::Integer, &[after])?;               // child > parent + 2
-//! let mark = link.lower(CellRef::Number(5));                              // above 7: from 8 units on
+//! let mark = link.lower(CellRef::Number(5));                              // Some(Mark::At(CellRef::Number(8)))
 //! ```
 //!
 //! A [`PairLink`] is made of all relations of a pair, each with its sign and the end that the child is. It holds of

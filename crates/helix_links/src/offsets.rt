@@ -57,7 +57,7 @@ impl OffsetLink {
         Ok(OffsetLink { quantity, bounds })
     }
 
-    /// As in [`Link`](helix_search::Link).
+    /// The mark that admits the children that meet the lower bound of a parent, if any do.
     pub fn lower<'a>(&self, parent: CellRef<'a>) -> Option<Mark<'a>>
         requires { IsValue (class_of_quantity self.now.quantity) (cell_of parent) }
         ensures { AreThoseAdmitted (class_of_quantity self.now.quantity)
@@ -68,7 +68,7 @@ impl OffsetLink {
         self.quantity.mark_from(least)
     }
 
-    /// As in [`Link`](helix_search::Link).
+    /// Whether a child meets the upper bound of a parent.
     pub fn passes_upper(&self, parent: CellRef<'_>, child: CellRef<'_>) -> bool
         requires parent { IsValue (class_of_quantity self.now.quantity) (cell_of parent) }
         requires child { IsValue (class_of_quantity self.now.quantity) (cell_of child) }
@@ -78,7 +78,7 @@ impl OffsetLink {
         pair::passes_upper(self.bounds.as_slice(), range, whole(parent), whole(child))
     }
 
-    /// As in [`Link`](helix_search::Link).
+    /// The mark that admits the parents whose upper bound a child meets, if it meets any.
     pub fn inverse<'a>(&self, child: CellRef<'a>) -> Option<Mark<'a>>
         requires { IsValue (class_of_quantity self.now.quantity) (cell_of child) }
         ensures { AreThoseAdmitted (class_of_quantity self.now.quantity)
@@ -89,7 +89,7 @@ impl OffsetLink {
         self.quantity.mark_from(least)
     }
 
-    /// As in [`Link`](helix_search::Link).
+    /// What a parent excludes from a child on.
     pub fn excludes<'a>(&self, parent: CellRef<'_>, child: CellRef<'a>) -> Exclusion<'a>
         requires parent { IsValue (class_of_quantity self.now.quantity) (cell_of parent) }
         requires child { IsValue (class_of_quantity self.now.quantity) (cell_of child) }
