@@ -3,7 +3,7 @@
 ghost use Rattle.std.specs.Prelude.{◌≡◌, ◌↔◌, IsTrue};
 ghost use Rattle.std.specs.List.{All};
 ghost use Rattle.helix_links.specs.Equalities.{class_of_equality, class_where, AreAsTold, IsAtLeast, IsAtMost, IsOther};
-ghost use Rattle.helix_links.specs.Relations.{IsMet, IsRelationOf};
+ghost use Rattle.helix_links.specs.Relations.{IsMet};
 ghost use Rattle.helix_search.specs.Bounds.{IsValue, AreThoseAdmitted};
 ghost use Rattle.helix_search.specs.Exclusion.{IsExclusion};
 ghost use Rattle.helix_values.specs.View.{cell_of};
