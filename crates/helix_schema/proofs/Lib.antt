@@ -1,5 +1,6 @@
 mod Accepting
 mod Breaching
-mod Naming
 mod Filling
+mod Mentioning
+mod Naming
 mod Wishes

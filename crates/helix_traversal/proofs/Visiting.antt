@@ -1,6 +1,5 @@
 -- The constraints within an object and a list, as code visits them.
-use Rattle.std.proofs.Common.{◌≡◌, ℕ, ◌+◌, ◌<◌, List, [], ◌∷◌, ◌++◌, drop, length, Option, None, Result, Ok, Err, OnOk, refl, sym, ◌∙◌, ap}
-use Rattle.std.specs.List.{flat_map}
+use Rattle.std.proofs.Common.{◌≡◌, ℕ, ◌+◌, List, [], ◌∷◌, ◌++◌, Option, None, Result, Ok, Err, OnOk, refl, sym, ◌∙◌, ap}
 use Rattle.std.proofs.lemmas.List.{append-nil}
 use Rattle.helix_base.specs.declared.memory.Memory.{Memory}
 use Rattle.helix_json.specs.declared.value.Json.{Json}
