@@ -3,4 +3,5 @@ mod Breaching
 mod Filling
 mod Mentioning
 mod Naming
+mod Unique
 mod Wishes

@@ -25,6 +25,7 @@
 
 mod draft;
 mod fault;
+pub mod laws;
 mod mention;
 mod mentions;
 mod read;
