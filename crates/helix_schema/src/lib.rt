@@ -40,3 +40,6 @@ pub use read::read_profile;
 pub use refusal::{Location, Refusal};
 pub use wanted::Wanted;
 pub use wish::Wish;
+
+#[cfg(test)]
+mod tests;
