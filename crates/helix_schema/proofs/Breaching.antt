@@ -1,11 +1,11 @@
 -- The first rule that is broken, S1 before the others.
-use Rattle.std.proofs.Common.{◌≡◌, ℕ, zero, suc, ◌+◌, ◌<◌, List, [], ◌∷◌, Option, None, Some, Result, Ok, Err, slice_get, refl, ap, subst, arith}
+use Rattle.std.proofs.Common.{◌≡◌, ℕ, zero, suc, ◌<◌, List, [], ◌∷◌, Option, None, Some, Result, Ok, Err, slice_get, arith}
 use Rattle.std.specs.Result.{IfOk}
 use Rattle.helix_base.specs.declared.memory.Memory.{Memory}
 use Rattle.helix_fields.specs.Fields.{IsNowhere}
 use Rattle.helix_json.specs.declared.value.Json.{Json}
 use Rattle.helix_profile.specs.declared.field.Field.{Field}
-use Rattle.helix_rules.specs.Breaches.{FindsBreach, IsFirstBreach}
+use Rattle.helix_rules.specs.Breaches.{FindsBreach}
 use Rattle.helix_rules.specs.Broken.{Broken}
 use Rattle.helix_rules.specs.declared.breach.Breach.{Breach}
 use Rattle.helix_rules.specs.declared.rule.Rule.{Rule}

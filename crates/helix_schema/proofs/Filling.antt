@@ -9,13 +9,12 @@ use Rattle.helix_places.specs.KeyLaws.{bytes_same, same_bytes}
 use Rattle.helix_places.specs.declared.place.Step.{Step}
 use Rattle.helix_places.specs.declared.place.Step.TheVariants as step
 use Rattle.helix_profile.specs.declared.field.Field.{Field}
-use Rattle.helix_readings.specs.Sets.{HasMembers}
 use Rattle.helix_readings.specs.declared.sets.SetMembers.{SetMembers}
 use Rattle.helix_traversal.specs.TraversalLaws.{IsOne}
 use Rattle.helix_validity.specs.Mentions.{AreFilled, AreSetMembers, Mentions}
 use Rattle.helix_values.specs.declared.cell.Cell.{Cell}
 use Rattle.helix_values.specs.declared.kind.Kind.{Kind}
-use Rattle.helix_schema.specs.Drafts.{AreMembersOf, IsDraft, IsGoodWish, Drafted, first_wanted, sets_of, set_or, wanted_from}
+use Rattle.helix_schema.specs.Drafts.{AreMembersOf, IsGoodWish, first_wanted, sets_of, wanted_from}
 use Rattle.helix_schema.specs.Mentions.{mentions_of}
 use Rattle.helix_schema.specs.declared.mention.Mention.{Mention}
 use Rattle.helix_schema.specs.declared.wish.Wish.{Wish}

@@ -1,8 +1,7 @@
 -- The mentions that are listed are those that the constraints name.
-use Rattle.std.proofs.Common.{◌≡◌, ◌⊎◌, inl, inr, ⊎_elim, ℕ, Bool, true, false, List, [], ◌∷◌, ◌++◌, Option, None, Some, codes, refl, sym, ◌∙◌, ap, subst}
-use Rattle.std.specs.List.{flat_map}
+use Rattle.std.proofs.Common.{◌≡◌, inl, inr, ⊎_elim, ℕ, true, List, [], ◌∷◌, ◌++◌, Option, None, Some, codes, refl, sym, ◌∙◌, ap, subst}
 use Rattle.std.specs.Option.{IsSomeAnd}
-use Rattle.helix_constraints.specs.Visited.{InConstraint, InConstraints, Itself, Visited, role_of_parts}
+use Rattle.helix_constraints.specs.Visited.{InConstraint, Itself, Visited, role_of_parts}
 use Rattle.helix_constraints.specs.declared.role.Role.{Role}
 use Rattle.helix_constraints.specs.declared.role.Role.TheVariants as role
 use Rattle.helix_json.specs.Values.{HasNoRepeatedKey}
@@ -26,7 +25,7 @@ use Rattle.helix_references.specs.RefusalLaws.{some_of}
 use Rattle.helix_rules.specs.Atoms.{atom_in, atom_of}
 use Rattle.helix_rules.specs.declared.atom.Atom.{Atom}
 use Rattle.helix_traversal.specs.Traversal.{Visit, all_constraints, at_key, collected}
-use Rattle.helix_traversal.specs.TraversalLaws.{IsNamed, IsOne, in_all, named_in_all, one_after, one_before, one_of_two}
+use Rattle.helix_traversal.specs.TraversalLaws.{IsOne, in_all, named_in_all, one_after, one_before, one_of_two}
 use Rattle.helix_validity.specs.Mentions.{Mentions, NamesSetFile}
 use Rattle.helix_values.specs.declared.kind.Kind.{Kind}
 use Rattle.helix_schema.specs.Mentions.{if_any, mention_by, mention_in, mentions_of, only_in_set, own_mentions}

@@ -1,9 +1,9 @@
 -- The first wish that isn't filled.
-use Rattle.std.proofs.Common.{◌≡◌, ℕ, zero, suc, ◌+◌, ◌<◌, Bool, true, not, List, [], ◌∷◌, Option, None, Some, drop, get_or, length, map, slice_set, take, refl, sym, ◌∙◌, ap, subst, arith}
+use Rattle.std.proofs.Common.{◌≡◌, ℕ, zero, suc, ◌+◌, ◌<◌, Bool, true, not, List, [], ◌∷◌, Option, None, Some, get_or, length, map, slice_set, take, refl, sym, ◌∙◌, ap, subst, arith}
 use Rattle.std.specs.Option.{IfNone, IfSome, IsSome, is_some}
 use Rattle.std.specs.List.{AllByRecursion}
 use Rattle.helix_values.specs.declared.cell.Cell.{Cell}
-use Rattle.helix_schema.specs.Drafts.{AreMembersOf, IsDraft, Drafted, IsFilled, IsGoodWish, IsMembersFor, filled, filled_or, first_wanted, wanted_from, wanted_or, with_members}
+use Rattle.helix_schema.specs.Drafts.{IsDraft, Drafted, IsFilled, IsGoodWish, IsMembersFor, filled, filled_or, first_wanted, wanted_from, wanted_or, with_members}
 use Rattle.helix_schema.specs.Inner.First.{IsFirstUnfilled}
 use Rattle.helix_schema.specs.declared.mention.Mention.{Mention}
 use Rattle.helix_schema.specs.declared.wish.Wish.{Wish}
