@@ -11,6 +11,7 @@ use Rattle.helix_schema.specs.Drafts.{Drafted}
 
 abbrev pub drafted_code : Coded Drafted
 drafted_code =
-    code_by (Alphabet × (Json × List Wish)) (coded× alphabet_row.coded (coded× json_row.coded (coded_list wish_row.coded)))
+    code_by (Alphabet × (Json × List Wish))
+    (coded× alphabet_row.coded (coded× json_row.coded (coded_list wish_row.coded)))
     (λ draft. (draft.alphabet, (draft.value, draft.wishes)))
     (λ parts. record { alphabet = parts.0; value = parts.1.0; wishes = parts.1.1 }) (λ _. refl)

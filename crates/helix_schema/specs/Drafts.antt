@@ -1,5 +1,6 @@
 -- A profile whose set files aren't all read yet.
-use Rattle.std.specs.Prelude.{◌≡◌, ◌≢◌, ℕ, ◌+◌, List, [], ◌∷◌, Option, None, Some, IfSome, IsSome, flat_map, map}
+use Rattle.std.specs.Prelude.{◌≡◌, ◌≢◌, ℕ, ◌+◌, List, [], ◌∷◌, flat_map, map}
+use Rattle.std.specs.Prelude.{Option, None, Some, IfSome, IsSome}
 use Rattle.std.specs.List.{AllByRecursion}
 use Rattle.helix_base.specs.declared.alphabet.Alphabet.{Alphabet}
 use Rattle.helix_fields.specs.Fields.{fields_of}
@@ -36,6 +37,7 @@ wanted_from number [] = None
 wanted_from number (wish ∷ wishes) =
     wanted_or wish.members (number, wish.mention) (wanted_from (number + 1) wishes)
 
+-- the same, counted from one
 abbrev pub first_wanted : List Wish → Option (ℕ × Mention)
 first_wanted wishes = wanted_from 1 wishes
 
@@ -43,9 +45,11 @@ first_wanted wishes = wanted_from 1 wishes
 abbrev pub IsFilled : Wish → Type 0
 IsFilled wish = IsSome wish.members
 
+-- the same mention with these members
 abbrev pub with_members : Wish → List Cell → Wish
 with_members wish members = record wish { members = Some members }
 
+-- the wishes where this one isn't filled, or where it is
 abbrev pub filled_or : Option (List Cell) → List Wish → List Wish → List Wish
 filled_or None own later = own
 filled_or (Some members) own later = later
@@ -65,6 +69,7 @@ pub record AreMembersOf (kind : Kind) (members : List Cell) : Type 0 where
   pub some : members ≢ []
   pub within : AllByRecursion (InUniverse kind) members
 
+-- its members, once they are read, are some for its kind
 abbrev pub IsGoodWish : Wish → Type 0
 IsGoodWish wish = IfSome wish.members (AreMembersOf wish.mention.kind)
 
@@ -72,7 +77,8 @@ IsGoodWish wish = IfSome wish.members (AreMembersOf wish.mention.kind)
 pub record IsDraft (draft : Drafted) : Type 0 where
   pub keys : HasNoRepeatedKey draft.value
   pub unbroken : IsUnbrokenProfile (fields_of draft.alphabet draft.value) draft.value
-  pub mentions : map (λ wish. wish.mention) draft.wishes ≡ mentions_of (fields_of draft.alphabet draft.value) draft.value
+  pub mentions : map (λ wish. wish.mention) draft.wishes
+      ≡ mentions_of (fields_of draft.alphabet draft.value) draft.value
   pub good : AllByRecursion IsGoodWish draft.wishes
 
 -- the members by the places of the mentions
@@ -80,6 +86,7 @@ abbrev pub set_or : Option (List Cell) → List Step → List SetMembers
 set_or None place = []
 set_or (Some members) place = record { place = place; members = members } ∷ []
 
+-- those of all mentions whose files are read
 abbrev pub sets_of : List Wish → List SetMembers
 sets_of wishes = flat_map (λ wish. set_or wish.members wish.mention.place) wishes
 

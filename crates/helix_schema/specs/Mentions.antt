@@ -31,10 +31,12 @@ mention_in fields place members = only_in_set (form_of members)
     (mention_by (at_key place (codes "inSet")) (kind_by fields (value_of (codes "field") members))
     (value_of (codes "inSet") members))
 
+-- the list of it, or of nothing
 abbrev pub if_any : Option Mention → List Mention
 if_any None = []
 if_any (Some mention) = mention ∷ []
 
+-- the mentions of a constraint itself: at most one
 abbrev pub own_mentions : List Field → List Step → Json → List Mention
 own_mentions fields place v = if_any (mention_in fields place (members_of v))
 

@@ -28,6 +28,7 @@ rule_of legacy.L2 = rule.L2
 rule_of legacy.L3 = rule.L3
 rule_of legacy.L4 = rule.L4
 
+-- a rule that is broken at a place, as it is told
 abbrev pub refusal : Rule → List Step → Refusal
 refusal broken place = record { rule = broken; location = location.Pointer (pointer_of place) }
 
@@ -51,11 +52,12 @@ abbrev pub IsRefused : Alphabet → Json → Refusal → Type 0
 IsRefused alphabet v refused =
     IsRefusedAsOlder v refused ⊎ (IsSoundIfOlder v × IsRefusedToday alphabet (today_of v) refused)
 
--- what a fault says: memory that runs out says nothing
+-- what a fault says of a value in today's form: memory that runs out says nothing
 abbrev pub RefusesToday : Alphabet → Json → SchemaFault → Type 0
 RefusesToday alphabet w (fault.Refused refused) = IsRefusedToday alphabet w refused
 RefusesToday alphabet w fault.Memory = Unit {0}
 
+-- the same of a value in either form
 abbrev pub Refuses : Alphabet → Json → SchemaFault → Type 0
 Refuses alphabet v (fault.Refused refused) = IsRefused alphabet v refused
 Refuses alphabet v fault.Memory = Unit {0}

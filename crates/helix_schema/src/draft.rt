@@ -95,7 +95,7 @@ impl Draft {
         fill_first(&mut self.wishes, members);
     }
 
-    /// The profile, once all set files are read.
+    /// The profile, once all set files are read; the draft as it was, where one is still wanted.
     pub fn finish(self, alloc: Global) -> Result<Profile, Unfinished>
         ensures profile { IfOk result (IsProfileOf self) }
         ensures unfinished { IfErr result (IsUnfinished self) }

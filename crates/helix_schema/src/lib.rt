@@ -1,18 +1,18 @@
 //! The profile that a JSON value gives, or the first rule that it breaks.
 //!
 //! ```text
-//! let mut draft = read_profile(alloc, Alphabet::Unicode, json)?;     // or Refused: rule S12 at #/constraints/0/equalTo
-//! while let Some(wanted) = draft.next_wanted() {                     // the set files that it mentions, in the text's order
+//! let mut draft = read_profile(alloc, Alphabet::Unicode, json)?;  // or Refused: S12 at #/constraints/0/equalTo
+//! while let Some(wanted) = draft.next_wanted() {                  // its set files, in the order of the text
 //!     let members = members(alloc, wanted.kind, bytes_of(wanted.name))?;
 //!     draft.fill(members);
 //! }
 //! let profile = draft.finish(alloc)?;
 //! ```
 //!
-//! [`read_profile`] takes a value of either form. It refuses a value that breaks one of the rules S1, L1 to L4 and S2 to
-//! S21, tried in this order, with the first place in the text where the first of them is broken; a place of the rules S2
-//! to S21 is one in today's form of the value. Else it answers a [`Draft`]: the value with the set files that it
-//! mentions. [`Draft::next_wanted`] names the first one that isn't read, [`Draft::fill`] takes its members, and
+//! [`read_profile`] takes a value of either form. It refuses a value that breaks one of the rules S1, L1 to L4 and S2
+//! to S21, tried in this order, with the first place in the text where the first of them is broken; a place of the
+//! rules S2 to S21 is one in today's form of the value. Else it answers a [`Draft`]: the value with the set files that
+//! it mentions. [`Draft::next_wanted`] names the first one that isn't read, [`Draft::fill`] takes its members, and
 //! [`Draft::finish`] makes the profile. That is always possible once all files are read: only memory can be wanting.
 //!
 //! No clause says what a call costs: reading is one search through the value for each rule, up to the first place, and
@@ -41,3 +41,6 @@ pub use read::read_profile;
 pub use refusal::{Location, Refusal};
 pub use wanted::Wanted;
 pub use wish::Wish;
+
+#[cfg(test)]
+mod tests;

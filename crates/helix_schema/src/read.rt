@@ -6,7 +6,8 @@ ghost use Rattle.helix_json.specs.Values.{HasNoRepeatedKey};
 ghost use Rattle.helix_rules.specs.Breaches.{FindsBreach};
 ghost use Rattle.helix_rules.specs.declared.rule.Rule.TheVariants as rules;
 ghost use Rattle.helix_validity.specs.Unbroken.{IsUnbrokenProfile, profile_rules};
-ghost use Rattle.helix_schema.specs.Refusals.{IsDraftOf, IsDraftToday, Refuses, RefusesToday, refusal, rule_of as rule_of_older};
+ghost use Rattle.helix_schema.specs.Refusals.{IsDraftOf, IsDraftToday, Refuses, RefusesToday};
+ghost use Rattle.helix_schema.specs.Refusals.{refusal, rule_of as rule_of_older};
 
 use crate::draft::{Draft, draft_of};
 use crate::fault::SchemaFault;

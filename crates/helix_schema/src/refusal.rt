@@ -15,6 +15,8 @@ pub enum Location {
 /// The first broken rule, and the first place where it is broken.
 #[derive(Debug, Drop)]
 pub struct Refusal {
+    /// The rule.
     pub rule: Rule,
+    /// The place.
     pub location: Location,
 }

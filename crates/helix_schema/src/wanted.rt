@@ -7,6 +7,7 @@ use helix_values::Kind;
 /// A set file that is still to be read.
 #[derive(Clone, Copy, Debug)]
 pub struct Wanted<'a> {
+    /// The name of the file.
     pub name: &'a Text,
     /// The kind of each member.
     pub kind: Kind,

@@ -15,7 +15,9 @@ use std::alloc::Global;
 /// A mention of a set file, and the members of the file once it is read.
 #[derive(Debug, Drop)]
 pub struct Wish {
+    /// The mention.
     pub mention: Mention,
+    /// The members of the file, where it is read.
     pub members: Option<Cells>,
 }
 
