@@ -1,6 +1,5 @@
 -- A value is refused by one rule at one place, or it has one draft.
-use Rattle.std.proofs.Common.{◌≡◌, ◌⊎◌, inl, inr, ⊎_elim, ℕ, ◌<◌, List, [], ◌∷◌, Option, None, Some, map, slice_get, refl, sym, ◌∙◌, ap, subst, arith}
-use Rattle.std.specs.Option.{IsSomeAnd}
+use Rattle.std.proofs.Common.{◌≡◌, ◌⊎◌, inl, inr, ⊎_elim, ℕ, ◌<◌, List, [], ◌∷◌, Some, slice_get, refl, sym, ◌∙◌, ap, subst, arith}
 use Rattle.std.proofs.lemmas.Bool.{cases_lt}
 use Rattle.helix_base.specs.declared.alphabet.Alphabet.{Alphabet}
 use Rattle.helix_fields.specs.Fields.{fields_of}
@@ -20,7 +19,7 @@ use Rattle.helix_rules.specs.declared.breach.Breach.{Breach}
 use Rattle.helix_rules.specs.declared.rule.Rule.{Rule}
 use Rattle.helix_rules.specs.declared.rule.Rule.TheVariants as rule
 use Rattle.helix_schema.specs.Drafts.{Drafted}
-use Rattle.helix_schema.specs.Refusals.{IsDraftOf, IsDraftToday, IsRefused, IsRefusedAsOlder, IsRefusedToday, IsSoundIfOlder, refusal, rule_of}
+use Rattle.helix_schema.specs.Refusals.{IsDraftOf, IsRefused, IsRefusedAsOlder, IsRefusedToday, IsSoundIfOlder, refusal, rule_of}
 use Rattle.helix_schema.specs.declared.refusal.Refusal.{Refusal}
 use Rattle.helix_validity.specs.Unbroken.{profile_rules}
 

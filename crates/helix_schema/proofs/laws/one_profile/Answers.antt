@@ -1,4 +1,4 @@
-use Rattle.std.proofs.Common.{◌≡◌, List, [], ◌∷◌, codes, sym, ◌∙◌, ap}
+use Rattle.std.proofs.Common.{◌≡◌, [], ◌∷◌, codes, sym, ◌∙◌, ap}
 use Rattle.helix_fields.specs.Fields.{constraints_of, fields_of}
 use Rattle.helix_places.specs.declared.place.Step.TheVariants as step
 use Rattle.helix_profile.specs.Content.{Content}
