@@ -1,6 +1,7 @@
 pub mod Asked
 pub mod CellOrder
 pub mod Climbing
+pub mod Counting
 pub mod Finishing
 pub mod Following
 pub mod Found

@@ -1,6 +1,6 @@
 -- Rows whose fields are divided into parts, each with regions of its own.
-use Rattle.std.specs.Prelude.{◌≡◌, ◌↔◌, ℕ, ◌<◌, List, Option, None, Some, length, slice_index_or}
-use Rattle.std.specs.List.{All, Any, AllPairs, Contains}
+use Rattle.std.specs.Prelude.{◌≡◌, ◌↔◌, ℕ, ◌+◌, ◌*◌, ◌<◌, ◌≤◌, List, Option, None, Some, length, slice_index_or}
+use Rattle.std.specs.List.{All, Any, AllPairs, Contains, sum_by}
 use Rattle.helix_profile.specs.Answer.{IsAbove}
 use Rattle.helix_rows.specs.Regions.{piece, IsFirstChange}
 use Rattle.helix_rows.specs.declared.part.Part.{Part}
@@ -64,6 +64,12 @@ pub record Walk (R : Type 0) : Type 0 where
   pub regions : List R
   pub fields : ℕ
   pub place : Option (List Cell)
+
+-- Where no part has more regions than a bound, the regions were asked at most so many times for each field and each
+-- region of the bound.
+abbrev pub AsksAtMost : {R : Type 0} → (R → ℕ) → ℕ → Walk R → List R → Type 0
+AsksAtMost asked times old new = (bound : ℕ) → All (λ part. length part.regions ≤ bound) old.parts
+    → sum_by asked new ≤ sum_by asked old.regions + times * (old.fields * bound)
 
 -- the rows in a walk's parts
 abbrev pub InWalk : {R : Type 0} → (R → List Cell → Type 0) → Walk R → List Cell → Type 0

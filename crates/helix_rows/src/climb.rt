@@ -46,6 +46,8 @@ pub(crate) fn raise<R: Region, L: Ledger>(
     ensures length { length state.new.row ≡ length state.old.row }
     ensures room { state.new.found.numbers.room ≡ state.old.found.numbers.room }
     ensures kept { KeepRegions R.fields R.HasRow state.old.regions.items state.new.regions.items }
+    ensures asked { sum_by R.asked state.new.regions.items
+        ≤ sum_by R.asked state.old.regions.items + end * state.old.found.numbers.room }
     ensures steps { NoneFalls steps.old.counts steps.new.counts }
 {
     for done in 0..end {
@@ -87,6 +89,8 @@ pub(crate) fn descend<R: Region, L: Ledger>(
     ensures length { length state.new.row ≡ length state.old.row }
     ensures room { state.new.found.numbers.room ≡ state.old.found.numbers.room }
     ensures kept { KeepRegions R.fields R.HasRow state.old.regions.items state.new.regions.items }
+    ensures asked { sum_by R.asked state.new.regions.items
+        ≤ sum_by R.asked state.old.regions.items + length state.old.row * state.old.found.numbers.room }
     ensures steps { NoneFalls steps.old.counts steps.new.counts }
 {
     let count = state.row.len();

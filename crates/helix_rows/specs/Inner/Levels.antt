@@ -90,7 +90,7 @@ OneIf false alive field number = alive
 abbrev pub Agree : ℕ → List Cell → List Cell → Type 0
 Agree end a b = (field : ℕ) → field < end → cell_at a field ≡ cell_at b field
 
--- the regions are those of the parts, and each list of them has room for all of one part
+-- the regions are those of the parts, and each list of them has room for all of one part and no more
 pub record IsReady {R : Type 0} (fields_of : R → List ℕ) (Has : R → List Cell → Type 0) (layout : Layout)
     (regions : List R) (alive : List Listed) (room fields : ℕ) : Type 0 where
   pub are : AreRegionsOf fields_of Has regions layout.parts
@@ -98,3 +98,4 @@ pub record IsReady {R : Type 0} (fields_of : R → List ℕ) (Has : R → List C
   pub rooms : All (λ listed. listed.room ≡ room) alive
   pub few : All (λ listed. length listed.items ≤ listed.room) alive
   pub enough : All (λ part. length part.regions ≤ room) layout.parts
+  pub least : (bound : ℕ) → All (λ part. length part.regions ≤ bound) layout.parts → room ≤ bound
