@@ -7,6 +7,7 @@ pub mod Following
 pub mod Found
 pub mod Layouts
 pub mod Levels
+pub mod Listing
 pub mod Offers
 pub mod Regions
 pub mod Rising

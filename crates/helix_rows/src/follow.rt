@@ -28,7 +28,7 @@ pub(crate) enum Followed {
 
 /// Whether two cells are one.
 #[inline(always)]
-fn is_same(a: CellRef<'_>, b: CellRef<'_>) -> bool
+pub(crate) fn is_same(a: CellRef<'_>, b: CellRef<'_>) -> bool
     ensures { IsTrue result ↔ (cell_of a.entry ≡ cell_of b.entry) }
 {
     match (a, b) {

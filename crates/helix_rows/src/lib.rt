@@ -43,3 +43,6 @@ mod walk;
 pub use part::Part;
 pub use region::{Question, Region};
 pub use walk::RowWalk;
+
+#[cfg(test)]
+mod tests;
