@@ -5,6 +5,7 @@ pub mod Counting
 pub mod Finishing
 pub mod Following
 pub mod Found
+pub mod Four
 pub mod Layouts
 pub mod Levels
 pub mod Listing

@@ -38,7 +38,8 @@ pub(crate) fn raise<R: Region, L: Ledger>(
         (λ field. IsRaised
         (IsInParts (HasAt R.HasRow state.old.regions.items) (length state.old.row) layout.now.parts) state.old.row
         state.new.row field × (field < end)
-        × AreAliveTo (HasAt R.HasRow state.old.regions.items) layout.now state.new.row state.new.alive.items (field + 1)
+        × AreAliveTo (HasAt R.HasRow state.old.regions.items) layout.now state.new.row state.new.alive.items
+        (field + 1)
         × AreBegunTo (HasAt R.HasRow state.old.regions.items) layout.now state.new.row (field + 1)) }
     ensures fit { All FitsSlot state.new.row }
     ensures ready { IsReady R.fields R.HasRow layout.now state.new.regions.items state.new.alive.items

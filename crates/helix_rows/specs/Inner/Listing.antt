@@ -43,7 +43,8 @@ IsTaken Admitted (Some value) found result old new =
     ⊎ (((found ≡ false) ⊎ CellLess (cell_or_null value) old) × (new ≡ cell_or_null value))))
 
 -- four regions, the first two over fields 0 and 2 and the others over fields 1 and 3, each with a row
-pub record AreFour {R : Type 0} (fields_of : R → List ℕ) (Has : R → List Cell → Type 0) (regions : List R) : Type 0 where
+pub record AreFour {R : Type 0} (fields_of : R → List ℕ) (Has : R → List Cell → Type 0)
+    (regions : List R) : Type 0 where
   pub first : R
   pub second : R
   pub third : R

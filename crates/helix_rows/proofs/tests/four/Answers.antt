@@ -1,5 +1,5 @@
 use Rattle.std.proofs.Common.{[], ◌∷◌, ◌++◌, ◌∙◌, ap}
-use Rattle.helix_rows.proofs.Listing.{some_row}
+use Rattle.helix_rows.proofs.Four.{some_row}
 use Rattle.helix_rows.proofs.tests.four.Goals as goal
 
 pub returns : goal.returns

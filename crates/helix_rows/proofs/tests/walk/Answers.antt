@@ -1,5 +1,5 @@
 use Rattle.std.proofs.Common.{[], ◌∷◌, sym, subst}
-use Rattle.helix_rows.proofs.Listing.{parts_four, regions_four, comparable_pairs, parts_are}
+use Rattle.helix_rows.proofs.Four.{parts_four, regions_four, comparable_pairs, parts_are}
 use Rattle.helix_rows.specs.Inner.Listing.{IsListed}
 use Rattle.helix_rows.specs.Parts.{ArePartsOf, AreRegionsOf}
 use Rattle.helix_rows.proofs.tests.walk.Goals as goal

@@ -2,7 +2,7 @@ use Rattle.std.proofs.Common.{[], ◌∷◌, take}
 use Rattle.helix_rows.specs.Inner.Listing.{IsListed}
 use Rattle.helix_rows.specs.Regions.{piece, Continues}
 use Rattle.helix_words.specs.Questions.{IsLeastAnswer}
-use Rattle.helix_rows.proofs.tests.PairsRegion.least.Given as goal
+use Rattle.helix_rows.proofs.tests.pairs.PairsRegion.least.Given as goal
 
 abbrev pub invariant-loop-pair : goal.invariant-loop-pair
 invariant-loop-pair g l =

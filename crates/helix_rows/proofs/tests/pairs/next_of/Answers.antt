@@ -1,5 +1,5 @@
 use Rattle.helix_rows.proofs.Listing.{next_first}
-use Rattle.helix_rows.proofs.tests.next_of.Goals as goal
+use Rattle.helix_rows.proofs.tests.pairs.next_of.Goals as goal
 
 pub returns-then-level-eq0 : goal.returns-then-level-eq0
 returns-then-level-eq0 c =

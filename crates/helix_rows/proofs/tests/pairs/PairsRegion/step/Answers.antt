@@ -5,7 +5,7 @@ use Rattle.helix_rows.specs.Inner.Listing.{IsListed}
 use Rattle.helix_rows.specs.Regions.{cell_at, number_at, piece, Continues}
 use Rattle.helix_values.specs.Slot.{FitsSlot}
 use Rattle.helix_values.specs.View.{cell_of}
-use Rattle.helix_rows.proofs.tests.PairsRegion.step.Goals as goal
+use Rattle.helix_rows.proofs.tests.pairs.PairsRegion.step.Goals as goal
 
 pub set-requires-clause-fits : goal.set-requires-clause-fits
 set-requires-clause-fits g c =

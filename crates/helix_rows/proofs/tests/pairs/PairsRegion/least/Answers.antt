@@ -2,7 +2,7 @@ use Rattle.std.proofs.Common.{ℤ, [], ◌∷◌, take, slice_index_or, Option, 
 use Rattle.std.proofs.lemmas.List.{get_or_default}
 use Rattle.helix_rows.proofs.Listing.{more_pairs}
 use Rattle.helix_rows.specs.Regions.{piece}
-use Rattle.helix_rows.proofs.tests.PairsRegion.least.Goals as goal
+use Rattle.helix_rows.proofs.tests.pairs.PairsRegion.least.Goals as goal
 
 pub loop-pair-preserved : goal.loop-pair-preserved
 loop-pair-preserved g c =
