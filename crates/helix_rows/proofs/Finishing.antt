@@ -168,9 +168,10 @@ pub opened : {R : Type 0} (F : R → List ℕ) (Has : R → List Cell → Type 0
     (regions : List R) (parts : List Part) (alive : List Listed) (most room : ℕ) (row : List Cell) (empty : Bool)
     → IsLayout layout fields → layout.parts ≡ parts → AreRegionsOf F Has regions parts → length alive ≡ fields
     → All (λ listed. listed.room ≡ most) alive → All (λ listed. length listed.items ≤ listed.room) alive
-    → All (λ part. length part.regions ≤ most) layout.parts → room ≡ most → row ≡ replicate fields cell.Null
+    → All (λ part. length part.regions ≤ most) layout.parts
+    → ((bound : ℕ) → All (λ part. length part.regions ≤ bound) layout.parts → most ≤ bound) → room ≡ most → row ≡ replicate fields cell.Null
     → IsEmptyIf empty layout → IsWalk F Has layout regions alive row room Nothing empty
-opened F Has layout fields regions parts alive most room row empty is parts_are are count rooms few enough room_is row_is
+opened F Has layout fields regions parts alive most room row empty is parts_are are count rooms few enough least room_is row_is
     emptiness =
     let long : length row ≡ fields = ap length row_is ∙ length-replicate fields cell.Null in
     walk_after F Has layout fields is regions alive row room Nothing empty long (record {
@@ -179,4 +180,5 @@ opened F Has layout fields regions parts alive most room row empty is parts_are 
       rooms = subst (λ r. All (λ listed. listed.room ≡ r) alive) (sym room_is) rooms;
       few = few;
       enough = subst (λ r. All (λ part. length part.regions ≤ r) layout.parts) (sym room_is) enough;
+      least = λ bound all. subst (λ r. r ≤ bound) (sym room_is) (least bound all);
     }) emptiness (subst (All FitsSlot) (sym row_is) (All-replicate FitsSlot fields cell.Null tt)) tt

@@ -233,6 +233,7 @@ module _ {R : Type 0} (F : R → List ℕ) (Has : R → List Cell → Type 0) (l
     rooms = ready.rooms;
     few = ready.few;
     enough = ready.enough;
+    least = ready.least;
   }
 
   pub ready_set : (field : ℕ) (listed : Listed) → listed.room ≡ room → length listed.items ≤ listed.room
@@ -243,6 +244,7 @@ module _ {R : Type 0} (F : R → List ℕ) (Has : R → List Cell → Type 0) (l
     rooms = All-set (λ l. l.room ≡ room) alive field listed same ready.rooms;
     few = All-set (λ l. length l.items ≤ l.room) alive field listed few ready.few;
     enough = ready.enough;
+    least = ready.least;
   }
 
   -- at most as many regions are alive as there is room for

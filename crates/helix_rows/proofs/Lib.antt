@@ -1,11 +1,14 @@
 pub mod Asked
 pub mod CellOrder
 pub mod Climbing
+pub mod Counting
 pub mod Finishing
 pub mod Following
 pub mod Found
+pub mod Four
 pub mod Layouts
 pub mod Levels
+pub mod Listing
 pub mod Offers
 pub mod Regions
 pub mod Rising

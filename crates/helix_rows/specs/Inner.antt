@@ -3,3 +3,4 @@ pub mod Levels
 pub mod Answers
 pub mod Places
 pub mod Following
+pub mod Listing

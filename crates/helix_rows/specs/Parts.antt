@@ -1,6 +1,6 @@
 -- Rows whose fields are divided into parts, each with regions of its own.
-use Rattle.std.specs.Prelude.{◌≡◌, ◌↔◌, ℕ, ◌<◌, List, Option, None, Some, length, slice_index_or}
-use Rattle.std.specs.List.{All, Any, AllPairs, Contains}
+use Rattle.std.specs.Prelude.{◌≡◌, ◌↔◌, ℕ, ◌+◌, ◌*◌, ◌<◌, ◌≤◌, List, Option, None, Some, length, slice_index_or}
+use Rattle.std.specs.List.{All, Any, AllPairs, Contains, sum_by}
 use Rattle.helix_profile.specs.Answer.{IsAbove}
 use Rattle.helix_rows.specs.Regions.{piece, IsFirstChange}
 use Rattle.helix_rows.specs.declared.part.Part.{Part}
@@ -9,7 +9,8 @@ use Rattle.helix_values.specs.Order.{RowLess}
 use Rattle.helix_values.specs.declared.cell.Cell.{Cell}
 
 -- the cells are a row of the region with this number
-pub record HasAt {R : Type 0} (Has : R → List Cell → Type 0) (regions : List R) (number : ℕ) (cells : List Cell) : Type 0 where
+pub record HasAt {R : Type 0} (Has : R → List Cell → Type 0) (regions : List R) (number : ℕ)
+    (cells : List Cell) : Type 0 where
   pub within : number < length regions
   pub has : (d : R) → Has (slice_index_or regions number d) cells
 
@@ -20,7 +21,8 @@ pub record IsInPart (Has : ℕ → List Cell → Type 0) (numbers : List ℕ) (c
   pub has : Has number cells
 
 -- in each part, the row's cells are a row of one of the part's regions
-pub record IsInParts (Has : ℕ → List Cell → Type 0) (fields : ℕ) (parts : List Part) (row : List Cell) : Type 0 where
+pub record IsInParts (Has : ℕ → List Cell → Type 0) (fields : ℕ) (parts : List Part)
+    (row : List Cell) : Type 0 where
   pub count : length row ≡ fields
   pub each : All (λ part. IsInPart Has part.regions (piece part.fields row)) parts
 
@@ -38,7 +40,8 @@ pub record ArePartsOf (fields : ℕ) (parts : List Part) : Type 0 where
   pub covered : (field : ℕ) → field < fields → Any (λ part. Contains part.fields field) parts
 
 -- there is a region with the number, and it is over these fields
-pub record IsRegionOver {R : Type 0} (fields_of : R → List ℕ) (regions : List R) (wanted : List ℕ) (number : ℕ) : Type 0 where
+pub record IsRegionOver {R : Type 0} (fields_of : R → List ℕ) (regions : List R) (wanted : List ℕ)
+    (number : ℕ) : Type 0 where
   pub within : number < length regions
   pub over : (d : R) → fields_of (slice_index_or regions number d) ≡ wanted
 
@@ -51,7 +54,8 @@ pub record AreRegionsOf {R : Type 0} (fields_of : R → List ℕ) (Has : R → L
       → IsInPart (HasAt Has regions) part.regions b → AreComparableRows a b) parts
 
 -- the questions changed no region's fields or rows
-pub record KeepRegions {R : Type 0} (fields_of : R → List ℕ) (Has : R → List Cell → Type 0) (old new : List R) : Type 0 where
+pub record KeepRegions {R : Type 0} (fields_of : R → List ℕ) (Has : R → List Cell → Type 0)
+    (old new : List R) : Type 0 where
   pub count : length new ≡ length old
   pub fields : (n : ℕ) (d : R) → n < length old
       → fields_of (slice_index_or new n d) ≡ fields_of (slice_index_or old n d)
@@ -64,6 +68,12 @@ pub record Walk (R : Type 0) : Type 0 where
   pub regions : List R
   pub fields : ℕ
   pub place : Option (List Cell)
+
+-- Where no part has more regions than a bound, the regions were asked at most so many times for each field and each
+-- region of the bound.
+abbrev pub AsksAtMost : {R : Type 0} → (R → ℕ) → ℕ → Walk R → List R → Type 0
+AsksAtMost asked times old new = (bound : ℕ) → All (λ part. length part.regions ≤ bound) old.parts
+    → sum_by asked new ≤ sum_by asked old.regions + times * (old.fields * bound)
 
 -- the rows in a walk's parts
 abbrev pub InWalk : {R : Type 0} → (R → List Cell → Type 0) → Walk R → List Cell → Type 0
@@ -87,7 +97,8 @@ pub record IsAtEnd (In : List Cell → Type 0) (old new : Option (List Cell)) : 
   pub none : (row : List Cell) → In row → ¬ (IsAbove old row)
 
 -- a call changed the place, and no part, no region's fields and no row
-pub record KeepsParts {R : Type 0} (fields_of : R → List ℕ) (Has : R → List Cell → Type 0) (old new : Walk R) : Type 0 where
+pub record KeepsParts {R : Type 0} (fields_of : R → List ℕ) (Has : R → List Cell → Type 0)
+    (old new : Walk R) : Type 0 where
   pub parts : new.parts ≡ old.parts
   pub fields : new.fields ≡ old.fields
   pub regions : KeepRegions fields_of Has old.regions new.regions

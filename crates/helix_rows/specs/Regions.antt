@@ -50,7 +50,8 @@ pub record IsLeastOf (Has Admitted : Cell → Type 0) (v : Cell) : Type 0 where
 -- the cell becomes the least one, or there is none and it is as it was
 abbrev pub IsLeastStep : (Cell → Type 0) → Question → Bool → Cell → Cell → Type 0
 IsLeastStep Has question true old new = IsLeastOf Has (IsAskedFor question old) new
-IsLeastStep Has question false old new = (new ≡ old) × ((other : Cell) → Has other → ¬ (IsAskedFor question old other))
+IsLeastStep Has question false old new =
+    (new ≡ old) × ((other : Cell) → Has other → ¬ (IsAskedFor question old other))
 
 -- no count of steps falls
 pub record NoneFalls (old new : Counted) : Type 0 where

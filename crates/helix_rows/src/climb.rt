@@ -38,7 +38,8 @@ pub(crate) fn raise<R: Region, L: Ledger>(
         (λ field. IsRaised
         (IsInParts (HasAt R.HasRow state.old.regions.items) (length state.old.row) layout.now.parts) state.old.row
         state.new.row field × (field < end)
-        × AreAliveTo (HasAt R.HasRow state.old.regions.items) layout.now state.new.row state.new.alive.items (field + 1)
+        × AreAliveTo (HasAt R.HasRow state.old.regions.items) layout.now state.new.row state.new.alive.items
+        (field + 1)
         × AreBegunTo (HasAt R.HasRow state.old.regions.items) layout.now state.new.row (field + 1)) }
     ensures fit { All FitsSlot state.new.row }
     ensures ready { IsReady R.fields R.HasRow layout.now state.new.regions.items state.new.alive.items
@@ -46,6 +47,8 @@ pub(crate) fn raise<R: Region, L: Ledger>(
     ensures length { length state.new.row ≡ length state.old.row }
     ensures room { state.new.found.numbers.room ≡ state.old.found.numbers.room }
     ensures kept { KeepRegions R.fields R.HasRow state.old.regions.items state.new.regions.items }
+    ensures asked { sum_by R.asked state.new.regions.items
+        ≤ sum_by R.asked state.old.regions.items + end * state.old.found.numbers.room }
     ensures steps { NoneFalls steps.old.counts steps.new.counts }
 {
     for done in 0..end {
@@ -87,6 +90,8 @@ pub(crate) fn descend<R: Region, L: Ledger>(
     ensures length { length state.new.row ≡ length state.old.row }
     ensures room { state.new.found.numbers.room ≡ state.old.found.numbers.room }
     ensures kept { KeepRegions R.fields R.HasRow state.old.regions.items state.new.regions.items }
+    ensures asked { sum_by R.asked state.new.regions.items
+        ≤ sum_by R.asked state.old.regions.items + length state.old.row * state.old.found.numbers.room }
     ensures steps { NoneFalls steps.old.counts steps.new.counts }
 {
     let count = state.row.len();

@@ -1,6 +1,7 @@
 //! How far the cells of any row begin rows of all parts.
 
-ghost use Rattle.std.specs.Prelude.{◌≡◌, ◌↔◌, ◌+◌, ◌<◌, [], length, IsTrue, MatchOption, All};
+ghost use Rattle.std.specs.Prelude.{◌≡◌, ◌↔◌, ◌+◌, ◌*◌, ◌<◌, ◌≤◌, [], length, IsTrue, MatchOption, All};
+ghost use Rattle.std.specs.List.{sum_by};
 ghost use Rattle.helix_rows.specs.Regions.{NoneFalls};
 ghost use Rattle.helix_rows.specs.Parts.{HasAt, IsInParts};
 ghost use Rattle.helix_rows.specs.Inner.Levels.{AreAliveTo, AreBegunTo, IsReady, KeepRegions, IsLayout};
@@ -27,7 +28,7 @@ pub(crate) enum Followed {
 
 /// Whether two cells are one.
 #[inline(always)]
-fn is_same(a: CellRef<'_>, b: CellRef<'_>) -> bool
+pub(crate) fn is_same(a: CellRef<'_>, b: CellRef<'_>) -> bool
     ensures { IsTrue result ↔ (cell_of a.entry ≡ cell_of b.entry) }
 {
     match (a, b) {
@@ -61,6 +62,8 @@ pub(crate) fn follow<R: Region, L: Ledger>(
     ensures length { length state.new.row ≡ length state.old.row }
     ensures room { state.new.found.numbers.room ≡ state.old.found.numbers.room }
     ensures kept { KeepRegions R.fields R.HasRow state.old.regions.items state.new.regions.items }
+    ensures asked { sum_by R.asked state.new.regions.items
+        ≤ sum_by R.asked state.old.regions.items + length state.old.row * state.old.found.numbers.room }
     ensures steps { NoneFalls steps.old.counts steps.new.counts }
 {
     let count = state.row.len();
@@ -96,7 +99,8 @@ pub(crate) fn raise_any<R: Region, L: Ledger>(
         (λ field. IsRaised
         (IsInParts (HasAt R.HasRow state.old.regions.items) (length state.old.row) layout.now.parts) state.old.row
         state.new.row field × (field < length state.old.row)
-        × AreAliveTo (HasAt R.HasRow state.old.regions.items) layout.now state.new.row state.new.alive.items (field + 1)
+        × AreAliveTo (HasAt R.HasRow state.old.regions.items) layout.now state.new.row state.new.alive.items
+        (field + 1)
         × AreBegunTo (HasAt R.HasRow state.old.regions.items) layout.now state.new.row (field + 1)) }
     ensures fit { All FitsSlot state.new.row }
     ensures ready { IsReady R.fields R.HasRow layout.now state.new.regions.items state.new.alive.items
@@ -104,6 +108,8 @@ pub(crate) fn raise_any<R: Region, L: Ledger>(
     ensures length { length state.new.row ≡ length state.old.row }
     ensures room { state.new.found.numbers.room ≡ state.old.found.numbers.room }
     ensures kept { KeepRegions R.fields R.HasRow state.old.regions.items state.new.regions.items }
+    ensures asked { sum_by R.asked state.new.regions.items
+        ≤ sum_by R.asked state.old.regions.items + 2 * (length state.old.row * state.old.found.numbers.room) }
     ensures steps { NoneFalls steps.old.counts steps.new.counts }
 {
     match follow(layout, state, own, steps) {

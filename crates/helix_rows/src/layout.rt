@@ -1,6 +1,6 @@
 //! The fields as levels of their parts.
 
-ghost use Rattle.std.specs.Prelude.{◌≡◌, ◌<◌, ◌≤◌, length, IfSome, IfNone, IfOk};
+ghost use Rattle.std.specs.Prelude.{◌≡◌, ◌<◌, ◌≤◌, ℕ, length, IfSome, IfNone, IfOk};
 ghost use Rattle.std.specs.List.{All, Any, Contains};
 ghost use Rattle.helix_rows.specs.Regions.{number_at};
 ghost use Rattle.helix_rows.specs.Parts.{ArePartsOf};
@@ -72,13 +72,15 @@ pub(crate) fn layout_of(alloc: Global, parts: List<Part>, fields: usize) -> Resu
 fn greater(a: usize, b: usize) -> usize
     ensures first { a ≤ result }
     ensures second { b ≤ result }
+    ensures least { (bound : ℕ) → a ≤ bound → b ≤ bound → result ≤ bound }
 {
     if a < b { b } else { a }
 }
 
 /// The greatest number of regions of a part.
 pub(crate) fn most_regions(parts: &[Part]) -> usize
-    ensures { All (λ part. length part.regions ≤ result) parts.now }
+    ensures few { All (λ part. length part.regions ≤ result) parts.now }
+    ensures least { (bound : ℕ) → All (λ part. length part.regions ≤ bound) parts.now → result ≤ bound }
 {
     let mut most = 0;
     for part in parts {

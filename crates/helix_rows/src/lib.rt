@@ -23,8 +23,10 @@
 //! Only [`RowWalk::open`] takes memory. A region answers the least cell with which first cells of a row go on to one
 //! of its own; where one region is alive, a question is one call of [`Region::step`], in place.
 //!
-//! What no clause says: how many questions a step asks. From a given row and from nothing it asks at most two for each
-//! field, each of the regions that are alive there; after `seek_after` at most three.
+//! A step asks, of all regions together, at most three questions for each field and each region of the part that has
+//! the most, wherever the place is. The aim is two: a step from a given row, or from nothing, asks no more than that,
+//! but contracts don't see whether a place was given or sought, and after `seek_after` the walk follows the row down,
+//! turns upwards and then goes down, which takes up to three.
 #![tactic(auto)]
 
 mod climb;
@@ -41,3 +43,6 @@ mod walk;
 pub use part::Part;
 pub use region::{Question, Region};
 pub use walk::RowWalk;
+
+#[cfg(test)]
+mod tests;

@@ -53,7 +53,8 @@ pub trait Region {
         ensures steps { NoneFalls steps.old.counts steps.new.counts };
 
     /// The same of a row whose cells of the first `level` fields go on to a row of the region, in place: its cell of
-    /// the next field becomes the least one, the least one that isn't below it, or the least one above it. Where there is none, the row stays.
+    /// the next field becomes the least one, the least one that isn't below it, or the least one above it. Where there
+    /// is none, the row stays.
     fn step<L: Ledger>(
         &mut self,
         row: &mut RowBuf,
@@ -66,7 +67,8 @@ pub trait Region {
         requires begun { Begins (HasRow self.old) (piece (take level (fields self.old)) row.old) }
         ensures answer { IsLeastStep
             (Continues (HasRow self.old) (piece (take level (fields self.old)) row.old)) question result
-            (cell_at row.old (number_at (fields self.old) level)) (cell_at row.new (number_at (fields self.old) level)) }
+            (cell_at row.old (number_at (fields self.old) level))
+            (cell_at row.new (number_at (fields self.old) level)) }
         ensures others { row.new ≡ slice_set row.old (number_at (fields self.old) level)
             (cell_at row.new (number_at (fields self.old) level)) }
         ensures fields { fields self.new ≡ fields self.old }

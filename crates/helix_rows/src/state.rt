@@ -55,7 +55,7 @@ fn is_last(question: Question, cell: CellRef<'_>) -> bool
 
 /// What a question admits of a row's own cell.
 #[inline(always)]
-fn mark_of<'a>(question: Question, cell: CellRef<'a>) -> Mark<'a>
+pub(crate) fn mark_of<'a>(question: Question, cell: CellRef<'a>) -> Mark<'a>
     ensures { IsMarkFor question (cell_of cell.entry) result }
 {
     match question {

@@ -4,7 +4,7 @@ ghost use Rattle.std.specs.Prelude.{◌≡◌, ◌<◌, ◌≤◌, ℕ, ◌≢�
 ghost use Rattle.std.specs.List.{sum_by};
 ghost use Rattle.helix_base.specs.Count.{last_count};
 ghost use Rattle.helix_rows.specs.Regions.{NoneFalls};
-ghost use Rattle.helix_rows.specs.Parts.{InWalk, IsNextPlace, IsNextRow, IsAtEnd, KeepsParts, ArePartsOf, AreRegionsOf};
+ghost use Rattle.helix_rows.specs.Parts.{AsksAtMost, InWalk, IsNextPlace, IsNextRow, IsAtEnd, KeepsParts, ArePartsOf, AreRegionsOf};
 ghost use Rattle.helix_rows.specs.Inner.Places.{IsWalk, place_of};
 ghost use Rattle.helix_values.specs.Slot.{FitsSlot};
 
@@ -110,6 +110,7 @@ impl<R: Region> RowWalk<R> {
         ensures next { IfSome result (IsNextPlace (InWalk R.HasRow self.old) self.old.place self.new.place) }
         ensures end { IfNone result (IsAtEnd (InWalk R.HasRow self.old) self.old.place self.new.place) }
         ensures parts { KeepsParts R.fields R.HasRow self.old self.new }
+        ensures asked { AsksAtMost R.asked 3 self.old self.new.regions }
         ensures steps { NoneFalls steps.old.counts steps.new.counts }
     {
         if self.empty {
@@ -152,6 +153,7 @@ impl<R: Region> RowWalk<R> {
         ensures end { result ≡ false → (out.new ≡ out.old)
             × IsAtEnd (InWalk R.HasRow self.old) self.old.place self.new.place }
         ensures parts { KeepsParts R.fields R.HasRow self.old self.new }
+        ensures asked { AsksAtMost R.asked 3 self.old self.new.regions }
         ensures steps { NoneFalls steps.old.counts steps.new.counts }
     {
         match self.step(steps) {

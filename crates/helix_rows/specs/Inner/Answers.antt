@@ -30,20 +30,22 @@ HasNone Has Admitted = (other : Cell) → Has other → ¬ (Admitted other)
 
 -- one more region is asked beside those that gave the best cell so far
 abbrev pub IsOffered : (Has Admitted : Cell → Type 0) (number : ℕ) (old new : Best) → Type 0
-IsOffered Has Admitted number old new = (HasNone Has Admitted × (new ≡ old)) ⊎ ((c : Cell) × IsLeastOf Has Admitted c
+IsOffered Has Admitted number old new = (HasNone Has Admitted × (new ≡ old))
+    ⊎ ((c : Cell) × IsLeastOf Has Admitted c
     × ((((old.numbers ≡ []) ⊎ CellLess c old.cell) × (new ≡ record { numbers = number ∷ []; cell = c }))
     ⊎ (((c ≡ old.cell) × (new ≡ record { numbers = old.numbers ++ number ∷ []; cell = old.cell }))
     ⊎ ((¬ (old.numbers ≡ [])) × CellLess old.cell c × (new ≡ old)))))
 
 -- the least admitted cell of several regions, and the regions that gave it
-pub record IsFound (Has : ℕ → List Cell → Type 0) (asked : List ℕ) (cells : List Cell) (Admitted : Cell → Type 0)
-    (best : Best) : Type 0 where
+pub record IsFound (Has : ℕ → List Cell → Type 0) (asked : List ℕ) (cells : List Cell)
+    (Admitted : Cell → Type 0) (best : Best) : Type 0 where
   pub least : IsLeastOf (Continues (IsInPart Has asked) cells) Admitted best.cell
   pub all : (n : ℕ) → Contains asked n → Continues (Has n) cells best.cell → Contains best.numbers n
   pub only : (n : ℕ) → Contains best.numbers n → Contains asked n
 
 -- it is found, or there is none
-abbrev pub IsFoundIf : (Has : ℕ → List Cell → Type 0) → List ℕ → List Cell → (Cell → Type 0) → Bool → Best → Type 0
+abbrev pub IsFoundIf : (Has : ℕ → List Cell → Type 0) → List ℕ → List Cell → (Cell → Type 0) → Bool → Best
+    → Type 0
 IsFoundIf Has asked cells Admitted true best = IsFound Has asked cells Admitted best
 IsFoundIf Has asked cells Admitted false best = HasNone (Continues (IsInPart Has asked) cells) Admitted
 
@@ -61,5 +63,6 @@ IsLastFrom In row field = (other : List Cell) → In other → Agree field other
 pub record IsRaised (In : List Cell → Type 0) (old new : List Cell) (field : ℕ) : Type 0 where
   pub change : IsFirstChange field old new
   pub last : IsLastFrom In old (field + 1)
-  pub least : (other : List Cell) → In other → Agree field other old → CellLess (cell_at old field) (cell_at other field)
+  pub least : (other : List Cell) → In other → Agree field other old
+      → CellLess (cell_at old field) (cell_at other field)
       → ¬ (CellLess (cell_at other field) (cell_at new field))

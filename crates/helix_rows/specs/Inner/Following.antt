@@ -11,7 +11,8 @@ use Rattle.helix_values.specs.declared.cell.Cell.{Cell}
 
 -- The cells before the end begin rows of all parts, and no row that has them is above the row. Or the cell of a field
 -- is raised, and those up to it begin rows.
-abbrev pub IsFollowed : (ℕ → List Cell → Type 0) → Layout → (old new : List Cell) → List Listed → Followed → Type 0
+abbrev pub IsFollowed : (ℕ → List Cell → Type 0) → Layout → (old new : List Cell) → List Listed → Followed
+    → Type 0
 IsFollowed Has layout old new alive (Until end) = (new ≡ old) × (end ≤ length old)
     × IsLastFrom (IsInParts Has (length old) layout.parts) old end
     × AreAliveTo Has layout old alive end × AreBegunTo Has layout old end

@@ -46,7 +46,8 @@ up_to layout field row = piece (take ((level_of layout field).position + 1) (par
 
 -- a cell with which a row's earlier cells go on to a row of the field's part
 abbrev pub GoesOn : (ℕ → List Cell → Type 0) → Layout → ℕ → List Cell → Cell → Type 0
-GoesOn Has layout field row next = Continues (IsInPart Has (part_of layout field).regions) (before_of layout field row) next
+GoesOn Has layout field row next =
+    Continues (IsInPart Has (part_of layout field).regions) (before_of layout field row) next
 
 -- up to a field, the row's cells begin a row of each part
 abbrev pub AreBegunTo : (ℕ → List Cell → Type 0) → Layout → List Cell → ℕ → Type 0
@@ -67,13 +68,15 @@ abbrev pub among_at : Layout → List Listed → ℕ → List ℕ
 among_at layout alive field = among_part (part_of layout field) alive (level_of layout field).position
 
 -- they are regions of the field's part, all that the row's cells up to the field begin a row of
-pub record IsAlive (Has : ℕ → List Cell → Type 0) (layout : Layout) (row : List Cell) (field : ℕ) (numbers : List ℕ) : Type 0 where
+pub record IsAlive (Has : ℕ → List Cell → Type 0) (layout : Layout) (row : List Cell) (field : ℕ)
+    (numbers : List ℕ) : Type 0 where
   pub all : (n : ℕ) → Contains (part_of layout field).regions n → Begins (Has n) (up_to layout field row)
       → Contains numbers n
   pub only : (n : ℕ) → Contains numbers n → Contains (part_of layout field).regions n
 
 abbrev pub AreAliveTo : (ℕ → List Cell → Type 0) → Layout → List Cell → List Listed → ℕ → Type 0
-AreAliveTo Has layout row alive end = (field : ℕ) → field < end → IsAlive Has layout row field (alive_at alive field)
+AreAliveTo Has layout row alive end =
+    (field : ℕ) → field < end → IsAlive Has layout row field (alive_at alive field)
 
 -- an item is changed, or none is
 abbrev pub ChangedIf : {X : Type 0} → Bool → List X → ℕ → X → List X
@@ -90,7 +93,7 @@ OneIf false alive field number = alive
 abbrev pub Agree : ℕ → List Cell → List Cell → Type 0
 Agree end a b = (field : ℕ) → field < end → cell_at a field ≡ cell_at b field
 
--- the regions are those of the parts, and each list of them has room for all of one part
+-- the regions are those of the parts, and each list of them has room for all of one part and no more
 pub record IsReady {R : Type 0} (fields_of : R → List ℕ) (Has : R → List Cell → Type 0) (layout : Layout)
     (regions : List R) (alive : List Listed) (room fields : ℕ) : Type 0 where
   pub are : AreRegionsOf fields_of Has regions layout.parts
@@ -98,3 +101,4 @@ pub record IsReady {R : Type 0} (fields_of : R → List ℕ) (Has : R → List C
   pub rooms : All (λ listed. listed.room ≡ room) alive
   pub few : All (λ listed. length listed.items ≤ listed.room) alive
   pub enough : All (λ part. length part.regions ≤ room) layout.parts
+  pub least : (bound : ℕ) → All (λ part. length part.regions ≤ bound) layout.parts → room ≤ bound

@@ -25,10 +25,12 @@ IsEmptyIf false layout = All (λ part. ¬ (part.regions ≡ [])) layout.parts
 abbrev pub IsGiven : (ℕ → List Cell → Type 0) → Layout → List Cell → List Listed → Place → Type 0
 IsGiven Has layout row alive Nothing = Unit {0}
 IsGiven Has layout row alive Sought = Unit {0}
-IsGiven Has layout row alive Given = IsInParts Has (length row) layout.parts row × AreAliveTo Has layout row alive (length row)
+IsGiven Has layout row alive Given =
+    IsInParts Has (length row) layout.parts row × AreAliveTo Has layout row alive (length row)
 
 pub record IsWalk {R : Type 0} (fields_of : R → List ℕ) (Has : R → List Cell → Type 0) (layout : Layout)
-    (regions : List R) (alive : List Listed) (row : List Cell) (room : ℕ) (place : Place) (empty : Bool) : Type 0 where
+    (regions : List R) (alive : List Listed) (row : List Cell) (room : ℕ) (place : Place)
+    (empty : Bool) : Type 0 where
   pub layout_is : IsLayout layout (length row)
   pub ready : IsReady fields_of Has layout regions alive room (length row)
   pub emptiness : IsEmptyIf empty layout

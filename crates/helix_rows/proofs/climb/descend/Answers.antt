@@ -1,6 +1,7 @@
-use Rattle.std.proofs.Common.{length, sym, ◌∙◌, subst, ⊎_elim, arith}
+use Rattle.std.proofs.Common.{◌-◌, length, sym, ◌∙◌, subst, ⊎_elim, arith}
 use Rattle.helix_rows.proofs.Asked.{steps_both}
 use Rattle.helix_rows.proofs.Climbing.{alive_now, alive_then, begun_now, answer_then, alive_more, begun_more, others_same, fit_changed, begun_at, goes_somewhere, start_answers, least_at, least_before}
+use Rattle.helix_rows.proofs.Counting.{later, within}
 use Rattle.helix_rows.proofs.Levels.{agree_changed, long_changed, step_has}
 use Rattle.helix_rows.proofs.Regions.{kept_both, same_or_not}
 use Rattle.helix_rows.specs.Inner.Answers.{IsLeastAt}
@@ -70,5 +71,13 @@ loop-field-preserved g c =
       ready = c.ask.ensures.ready;
       room = c.ask.ensures.room ∙ c.loop-field.invariant.room;
       kept = kept_both g.R.Region.fields g.R.Region.HasRow _ _ _ c.loop-field.invariant.kept c.ask.ensures.kept;
+      asked = later _ _ _ c.loop-field.field c.args.start c.args.state.now.found.numbers.room
+          c.loop-field.state.found.numbers.room (omega arith) c.loop-field.invariant.room c.loop-field.invariant.asked
+          c.ask.ensures.asked;
       steps = steps_both _ _ _ c.loop-field.invariant.steps c.ask.ensures.steps;
     }
+
+pub returns-clause-asked : goal.returns-clause-asked
+returns-clause-asked g c =
+    within _ _ (c.loop-field.field - c.args.start) (length c.args.state.now.row) c.args.state.now.found.numbers.room
+    (omega (arith, c.loop-field-test.false, c.loop-field.auto.field-end, c.len-count.ensures)) c.loop-field.invariant.asked

@@ -1,5 +1,5 @@
-use Rattle.std.proofs.Common.{◌≡◌, ℕ, ◌<◌, ◌≤◌, length}
-use Rattle.std.specs.List.{All}
+use Rattle.std.proofs.Common.{◌≡◌, ℕ, ◌<◌, ◌≤◌, length, ◌+◌, ◌*◌, ◌-◌}
+use Rattle.std.specs.List.{All, sum_by}
 use Rattle.helix_rows.specs.Inner.Answers.{IsLeastAt}
 use Rattle.helix_rows.specs.Inner.Levels.{Agree, AreAliveTo, AreBegunTo, IsReady, KeepRegions}
 use Rattle.helix_rows.specs.Parts.{HasAt, IsInParts}
@@ -22,5 +22,7 @@ invariant-loop-field g l = record {
       l.state.found.numbers.room (length l.state.row);
   room : l.state.found.numbers.room ≡ l.initial.state.found.numbers.room;
   kept : KeepRegions g.R.Region.fields g.R.Region.HasRow l.initial.state.regions.items l.state.regions.items;
+  asked : sum_by g.R.Region.asked l.state.regions.items
+      ≤ sum_by g.R.Region.asked l.initial.state.regions.items + (l.field - l.start) * l.initial.state.found.numbers.room;
   steps : NoneFalls l.initial.steps.counts l.steps.counts;
 }

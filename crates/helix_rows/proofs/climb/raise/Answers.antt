@@ -1,6 +1,7 @@
 use Rattle.std.proofs.Common.{◌≡◌, ◌+◌, ◌-◌, length, sym, ◌∙◌, ap, subst, arith}
 use Rattle.helix_rows.proofs.Asked.{steps_both}
 use Rattle.helix_rows.proofs.Climbing.{alive_now, alive_then, begun_now, answer_then, alive_less, before_begun, alive_more, begun_more, others_same, fit_changed, down_none, changed_none, is_raised}
+use Rattle.helix_rows.proofs.Counting.{one_more, within}
 use Rattle.helix_rows.proofs.Levels.{agree_changed, long_changed, step_has}
 use Rattle.helix_rows.proofs.Regions.{kept_both}
 use Rattle.helix_rows.specs.Inner.Answers.{IsLastFrom, IsRaised}
@@ -106,5 +107,18 @@ loop-done-preserved g c =
       ready = c.ask.ensures.ready;
       room = c.ask.ensures.room ∙ c.loop-done.invariant.room;
       kept = kept_both g.R.Region.fields g.R.Region.HasRow _ _ _ c.loop-done.invariant.kept c.ask.ensures.kept;
+      asked = one_more _ _ _ c.loop-done.done c.args.state.now.found.numbers.room c.loop-done.state.found.numbers.room
+          c.loop-done.invariant.room c.loop-done.invariant.asked c.ask.ensures.asked;
       steps = steps_both _ _ _ c.loop-done.invariant.steps c.ask.ensures.steps;
     }
+
+pub returns-then-ask-clause-asked : goal.returns-then-ask-clause-asked
+returns-then-ask-clause-asked g c =
+    within _ _ (c.loop-done.done + 1) c.args.end c.args.state.now.found.numbers.room (omega (arith, c.loop-done-test.true))
+    (one_more _ _ _ c.loop-done.done c.args.state.now.found.numbers.room c.loop-done.state.found.numbers.room
+    c.loop-done.invariant.room c.loop-done.invariant.asked c.ask.ensures.asked)
+
+pub returns-clause-asked : goal.returns-clause-asked
+returns-clause-asked g c =
+    within _ _ c.loop-done.done c.args.end c.args.state.now.found.numbers.room
+    (omega (arith, c.loop-done-test.false, c.loop-done.auto.done-end)) c.loop-done.invariant.asked

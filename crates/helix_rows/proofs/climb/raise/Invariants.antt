@@ -1,4 +1,5 @@
-use Rattle.std.proofs.Common.{◌≡◌, ◌-◌, length}
+use Rattle.std.proofs.Common.{◌≡◌, ◌-◌, length, ◌+◌, ◌*◌, ◌≤◌}
+use Rattle.std.specs.List.{sum_by}
 use Rattle.helix_rows.specs.Inner.Answers.{IsLastFrom}
 use Rattle.helix_rows.specs.Inner.Levels.{IsReady, KeepRegions}
 use Rattle.helix_rows.specs.Parts.{HasAt, IsInParts}
@@ -15,5 +16,7 @@ invariant-loop-done g l = record {
       l.state.found.numbers.room (length l.state.row);
   room : l.state.found.numbers.room ≡ l.initial.state.found.numbers.room;
   kept : KeepRegions g.R.Region.fields g.R.Region.HasRow l.initial.state.regions.items l.state.regions.items;
+  asked : sum_by g.R.Region.asked l.state.regions.items
+      ≤ sum_by g.R.Region.asked l.initial.state.regions.items + l.done * l.initial.state.found.numbers.room;
   steps : NoneFalls l.initial.steps.counts l.steps.counts;
 }

@@ -1,7 +1,8 @@
-use Rattle.std.proofs.Common.{◌≡◌, length, refl, sym, ◌∙◌, ap, subst, arith}
+use Rattle.std.proofs.Common.{◌≡◌, ◌+◌, length, refl, sym, ◌∙◌, ap, subst, arith}
 use Rattle.helix_rows.proofs.Asked.{steps_both}
 use Rattle.helix_rows.proofs.Climbing.{alive_now, alive_then, begun_now, answer_then, alive_more, begun_more, others_same, fit_changed, begun_at, changed_none}
 use Rattle.helix_rows.proofs.Following.{stuck_last, followed_raised, same_row, not_both}
+use Rattle.helix_rows.proofs.Counting.{one_more, within}
 use Rattle.helix_rows.proofs.Levels.{agree_changed, long_changed, step_has}
 use Rattle.helix_rows.proofs.Regions.{kept_both}
 use Rattle.helix_rows.proofs.Rising.{last_at_end}
@@ -110,6 +111,8 @@ loop-field-preserved g c =
       ready = c.ask.ensures.ready;
       room = c.ask.ensures.room ∙ c.loop-field.invariant.room;
       kept = kept_both g.R.Region.fields g.R.Region.HasRow _ _ _ c.loop-field.invariant.kept c.ask.ensures.kept;
+      asked = one_more _ _ _ c.loop-field.field c.args.state.now.found.numbers.room c.loop-field.state.found.numbers.room
+          c.loop-field.invariant.room c.loop-field.invariant.asked c.ask.ensures.asked;
       steps = steps_both _ _ _ c.loop-field.invariant.steps c.ask.ensures.steps;
     }
 
@@ -126,3 +129,22 @@ returns-clause-followed g c =
       subst (λ n. AreBegunTo (HasAt g.R.Region.HasRow c.args.state.now.regions.items) c.args.layout.now c.args.state.now.row n) end
           (subst (λ r. AreBegunTo (HasAt g.R.Region.HasRow c.args.state.now.regions.items) c.args.layout.now r c.loop-field.field) c.loop-field.invariant.row c.loop-field.invariant.begun),
     )
+
+pub returns-then-not-ask-clause-asked : goal.returns-then-not-ask-clause-asked
+returns-then-not-ask-clause-asked g c =
+    within _ _ (c.loop-field.field + 1) (length c.args.state.now.row) c.args.state.now.found.numbers.room
+    (omega (arith, c.loop-field-test.true, c.len-count.ensures))
+    (one_more _ _ _ c.loop-field.field c.args.state.now.found.numbers.room c.loop-field.state.found.numbers.room
+    c.loop-field.invariant.room c.loop-field.invariant.asked c.ask.ensures.asked)
+
+pub returns-then-not-is_same-clause-asked : goal.returns-then-not-is_same-clause-asked
+returns-then-not-is_same-clause-asked g c =
+    within _ _ (c.loop-field.field + 1) (length c.args.state.now.row) c.args.state.now.found.numbers.room
+    (omega (arith, c.loop-field-test.true, c.len-count.ensures))
+    (one_more _ _ _ c.loop-field.field c.args.state.now.found.numbers.room c.loop-field.state.found.numbers.room
+    c.loop-field.invariant.room c.loop-field.invariant.asked c.ask.ensures.asked)
+
+pub returns-clause-asked : goal.returns-clause-asked
+returns-clause-asked g c =
+    within _ _ c.loop-field.field (length c.args.state.now.row) c.args.state.now.found.numbers.room
+    (omega (arith, c.loop-field-test.false, c.loop-field.auto.field-end, c.len-count.ensures)) c.loop-field.invariant.asked

@@ -1,5 +1,5 @@
-use Rattle.std.proofs.Common.{◌≡◌, length}
-use Rattle.std.specs.List.{All}
+use Rattle.std.proofs.Common.{◌≡◌, length, ◌+◌, ◌*◌, ◌≤◌}
+use Rattle.std.specs.List.{All, sum_by}
 use Rattle.helix_rows.specs.Inner.Levels.{AreAliveTo, AreBegunTo, IsReady, KeepRegions}
 use Rattle.helix_rows.specs.Parts.{HasAt}
 use Rattle.helix_rows.specs.Regions.{NoneFalls}
@@ -17,5 +17,7 @@ invariant-loop-field g l = record {
       l.state.found.numbers.room (length l.state.row);
   room : l.state.found.numbers.room ≡ l.initial.state.found.numbers.room;
   kept : KeepRegions g.R.Region.fields g.R.Region.HasRow l.initial.state.regions.items l.state.regions.items;
+  asked : sum_by g.R.Region.asked l.state.regions.items
+      ≤ sum_by g.R.Region.asked l.initial.state.regions.items + l.field * l.initial.state.found.numbers.room;
   steps : NoneFalls l.initial.steps.counts l.steps.counts;
 }

@@ -1,5 +1,6 @@
-use Rattle.std.proofs.Common.{sym, subst}
+use Rattle.std.proofs.Common.{length, sym, subst, arith}
 use Rattle.helix_rows.proofs.Climbing.{alive_now}
+use Rattle.helix_rows.proofs.Counting.{then_more}
 use Rattle.helix_rows.proofs.Following.{raised_then}
 use Rattle.helix_rows.specs.Inner.Levels.{AreAliveTo}
 use Rattle.helix_rows.specs.Parts.{HasAt}
@@ -19,3 +20,12 @@ returns-in-Until-clause-raised g c =
     c.follow.ensures.kept c.args.layout.now c.args.state.now.row c.follow.new.state.row
     c.in-Until.ensures.followed.0 c.in-Until.end c.raise.new.state.row c.raise.new.state.alive.items
     c.follow.new.state.alive.items c.raise.result c.in-Until.ensures.followed.1 c.raise.ensures.raised
+
+pub returns-in-Until-clause-asked : goal.returns-in-Until-clause-asked
+returns-in-Until-clause-asked g c =
+    then_more 1 _ _ _ (length c.args.state.now.row) c.args.state.now.found.numbers.room c.in-Until.end
+    c.follow.new.state.found.numbers.room c.in-Until.ensures.followed.1 c.follow.ensures.room
+    (omega (arith, c.follow.ensures.asked)) c.raise.ensures.asked
+
+pub returns-in-Raised-clause-asked : goal.returns-in-Raised-clause-asked
+returns-in-Raised-clause-asked g c = omega (arith, c.follow.ensures.asked)

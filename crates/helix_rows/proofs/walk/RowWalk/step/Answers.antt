@@ -1,12 +1,13 @@
 use Rattle.std.proofs.Common.{◌+◌, ◌<◌, Some, length, refl, sym, ◌∙◌, subst, arith}
 use Rattle.helix_rows.proofs.Climbing.{alive_now, begun_now}
+use Rattle.helix_rows.proofs.Counting.{at_most, then_more, within}
 use Rattle.helix_rows.proofs.Finishing.{member_begun, begun_member, given_after, given_stays, least_fewer, next_from_nothing, next_from_row, walk_after}
 use Rattle.helix_rows.proofs.Regions.{has_new, has_old, in_parts_to}
 use Rattle.helix_rows.proofs.Rising.{last_at_end}
 use Rattle.helix_rows.specs.Inner.Answers.{IsLastFrom}
 use Rattle.helix_rows.specs.Inner.Levels.{IsLayout, part_of}
 use Rattle.helix_rows.specs.Inner.Places.{IsEmptyIf, IsGiven, place_of}
-use Rattle.helix_rows.specs.Parts.{HasAt, IsInParts, InWalk, IsNextPlace}
+use Rattle.helix_rows.specs.Parts.{AsksAtMost, HasAt, IsInParts, InWalk, IsNextPlace}
 use Rattle.helix_rows.specs.declared.walk.Place.TheVariants.{Given}
 use Rattle.helix_rows.proofs.walk.RowWalk.step.Goals as goal
 
@@ -175,3 +176,56 @@ returns-in-Some-raise-clause-next g c =
     c.raise.ensures.kept n cells) (length c.self.inside.state.row) c.self.inside.layout.parts row inside))
     c.descend-in-Some-raise.new.state.row f
     (c.descend-in-Some-raise.ensures.least f from (subst (λ n. f < n) (sym c.raise.ensures.length) less)))))
+
+pub returns-in-Nothing-clause-asked : goal.returns-in-Nothing-clause-asked
+returns-in-Nothing-clause-asked g c =
+    subst (λ walk. AsksAtMost g.R.Region.asked 3 walk c.descend.new.state.regions.items)
+    c.self.view_is
+    (at_most g.R.Region.asked c.self.inside.layout.parts (length c.self.inside.state.row)
+    c.self.inside.state.found.numbers.room 1 3 c.self.inside.state.regions.items c.descend.new.state.regions.items
+    (omega arith) c.self.invariant.ready.least
+    (omega (arith, c.descend.ensures.asked)))
+
+pub returns-in-Some-clause-asked : goal.returns-in-Some-clause-asked
+returns-in-Some-clause-asked g c =
+    subst (λ walk. AsksAtMost g.R.Region.asked 3 walk c.descend-in-Some.new.state.regions.items)
+    c.self.view_is
+    (at_most g.R.Region.asked c.self.inside.layout.parts (length c.self.inside.state.row)
+    c.self.inside.state.found.numbers.room 3 3 c.self.inside.state.regions.items c.descend-in-Some.new.state.regions.items
+    (omega arith) c.self.invariant.ready.least
+    (then_more 2 _ _ _ (length c.self.inside.state.row) c.self.inside.state.found.numbers.room
+    (length c.raise_any.new.state.row) c.raise_any.new.state.found.numbers.room
+    (omega (arith, c.raise_any.ensures.length)) c.raise_any.ensures.room c.raise_any.ensures.asked
+    c.descend-in-Some.ensures.asked))
+
+pub returns-in-None-clause-asked : goal.returns-in-None-clause-asked
+returns-in-None-clause-asked g c =
+    subst (λ walk. AsksAtMost g.R.Region.asked 3 walk c.raise_any.new.state.regions.items)
+    c.self.view_is
+    (at_most g.R.Region.asked c.self.inside.layout.parts (length c.self.inside.state.row)
+    c.self.inside.state.found.numbers.room 2 3 c.self.inside.state.regions.items c.raise_any.new.state.regions.items
+    (omega arith) c.self.invariant.ready.least
+    (c.raise_any.ensures.asked))
+
+pub returns-in-Some-raise-clause-asked : goal.returns-in-Some-raise-clause-asked
+returns-in-Some-raise-clause-asked g c =
+    subst (λ walk. AsksAtMost g.R.Region.asked 3 walk c.descend-in-Some-raise.new.state.regions.items)
+    c.self.view_is
+    (at_most g.R.Region.asked c.self.inside.layout.parts (length c.self.inside.state.row)
+    c.self.inside.state.found.numbers.room 2 3 c.self.inside.state.regions.items c.descend-in-Some-raise.new.state.regions.items
+    (omega arith) c.self.invariant.ready.least
+    (then_more 1 _ _ _ (length c.self.inside.state.row) c.self.inside.state.found.numbers.room
+    (length c.raise.new.state.row) c.raise.new.state.found.numbers.room
+    (omega (arith, c.raise.ensures.length)) c.raise.ensures.room
+    (let most = within _ _ c.len-end.result (length c.self.inside.state.row) c.self.inside.state.found.numbers.room
+    (omega (arith, c.len-end.ensures)) c.raise.ensures.asked in omega (arith, most)) c.descend-in-Some-raise.ensures.asked))
+
+pub returns-in-None-raise-clause-asked : goal.returns-in-None-raise-clause-asked
+returns-in-None-raise-clause-asked g c =
+    subst (λ walk. AsksAtMost g.R.Region.asked 3 walk c.raise.new.state.regions.items)
+    c.self.view_is
+    (at_most g.R.Region.asked c.self.inside.layout.parts (length c.self.inside.state.row)
+    c.self.inside.state.found.numbers.room 1 3 c.self.inside.state.regions.items c.raise.new.state.regions.items
+    (omega arith) c.self.invariant.ready.least
+    (let most = within _ _ c.len-end.result (length c.self.inside.state.row) c.self.inside.state.found.numbers.room
+    (omega (arith, c.len-end.ensures)) c.raise.ensures.asked in omega (arith, most)))
