@@ -4,3 +4,7 @@ pub mod Bounds
 pub mod Exclusion
 pub mod Extending
 pub mod Nodes
+pub mod Levels
+pub mod Trees
+-- what private clauses rest on
+pub mod Inner

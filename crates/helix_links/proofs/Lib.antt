@@ -1,0 +1,6 @@
+pub mod Marks
+pub mod BoundsOf
+pub mod Walks
+pub mod Told
+pub mod Equal
+pub mod OffsetAnswers
