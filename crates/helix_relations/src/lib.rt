@@ -26,6 +26,7 @@
 
 mod graph;
 pub mod laws;
+mod neighbours;
 mod part;
 mod region;
 mod regions;
