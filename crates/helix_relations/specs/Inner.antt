@@ -6,5 +6,7 @@ pub mod SettingLaws
 pub mod FindingLaws
 pub mod RelatingLaws
 pub mod OpeningLaws
+pub mod SearchingLaws
+pub mod FixedLaws
 pub mod PartLaws
 pub mod PutLaws

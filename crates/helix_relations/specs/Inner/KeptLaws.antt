@@ -175,7 +175,7 @@ module _ (nodes : List PartNode) (ascending : IsStrictlyIncreasing (numbers_of (
   index_at d u below = record { below = below; is = number_at nodes u d below }
 
   -- what is known of the field of a number is known of the node that has it
-  known_of : (d : PartNode) (u n : ℕ) (Fact : RegionField → Type 0) → u < length nodes → (get_or nodes u d).place ≡ n
+  pub known_of : (d : PartNode) (u n : ℕ) (Fact : RegionField → Type 0) → u < length nodes → (get_or nodes u d).place ≡ n
       → FieldNumbered (fields_of nodes) n Fact → Fact (field_of (get_or nodes u d))
   known_of d u n Fact below at numbered = let found = numbered_at nodes d n Fact numbered in
       let same : found.0 ≡ u = placed_once nodes ascending (get_or nodes u d).place u (index_at d u below) d found.0

@@ -28,7 +28,7 @@ pub right_there : (fields : List RegionField) (r : Relation) → JoinsFields fie
 right_there fields r joins = let left = fact_of fields r.left (IsLeftEnd fields r) joins in
     any_numbered fields r.right (IsRightEnd r left.0) left.1.1
 
-some_node : (nodes : List PartNode) (u : ℕ) → u < length nodes → PartNode
+pub some_node : (nodes : List PartNode) (u : ℕ) → u < length nodes → PartNode
 some_node [] u below = absurd (omega (arith, below))
 some_node (x ∷ nodes) u below = x
 
