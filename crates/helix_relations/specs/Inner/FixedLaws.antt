@@ -1,5 +1,5 @@
 -- The fixed cells of a search through the nodes of a region. Lemmas.
-use Rattle.std.proofs.Common.{◌≡◌, ℕ, zero, suc, ◌<◌, ◌≤◌, ◌↔◌, Bool, true, false, if◌then◌else◌, ltb, Option, None, Some, List, length, slice_get, get_or, Contains, refl, sym, ap, ◌∙◌, subst, arith}
+use Rattle.std.proofs.Common.{◌≡◌, ℕ, zero, suc, ◌<◌, ◌≤◌, ◌↔◌, Bool, true, false, if◌then◌else◌, ltb, Option, None, Some, List, length, slice_get, refl, sym, ap, ◌∙◌, subst, arith}
 use Rattle.std.proofs.lemmas.Bool.{ltb-true}
 use Rattle.helix_values.specs.declared.cell.Cell.{Cell}
 use Rattle.helix_profile.specs.Satisfaction.{cell_at}
@@ -11,7 +11,7 @@ use Rattle.helix_relations.specs.Region.{BeginsWith, ExtendsTo}
 use Rattle.helix_relations.specs.RegionGraph.{number_of, fixed_by}
 use Rattle.helix_relations.specs.SearchGraph.{IsRelated}
 use Rattle.helix_relations.specs.SearchLaws.{search_is_exact}
-use Rattle.helix_relations.specs.Inner.Parts.{PartNode, field_of, content_of}
+use Rattle.helix_relations.specs.Inner.Parts.{PartNode, content_of}
 use Rattle.helix_relations.specs.Inner.PartLaws.{number_at}
 use Rattle.helix_relations.specs.Inner.Kept.{IsKept}
 use Rattle.helix_relations.specs.Inner.RelatingLaws.{some_node}

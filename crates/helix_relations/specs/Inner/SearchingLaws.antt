@@ -1,15 +1,14 @@
 -- The nodes of a region as the graph that a search goes through. Lemmas.
-use Rattle.std.proofs.Common.{◌≡◌, ◌≢◌, ◌↔◌, ℕ, zero, suc, ◌<◌, Bool, true, false, IsTrue, Option, None, Some, List, [], ◌∷◌, inl, inr, ⊎_elim, length, map, slice_get, slice_index, get_or, All, AllPairs, Contains, refl, sym, ap, ap₂, ◌∙◌, subst, arith}
+use Rattle.std.proofs.Common.{◌≡◌, ◌≢◌, ◌↔◌, ℕ, zero, suc, ◌<◌, Bool, true, false, IsTrue, Some, List, [], ◌∷◌, inl, inr, length, map, slice_get, get_or, All, AllPairs, Contains, refl, sym, ap, ap₂, ◌∙◌, subst, arith}
 use Rattle.std.proofs.lemmas.Bool.{true≢false}
 use Rattle.std.proofs.lemmas.List.{length-map, get_or-map}
 use Rattle.std.proofs.lemmas.Option.{same_Some, slice_get_within}
 use Rattle.std.proofs.Math.Path.{subst₂}
 use Rattle.std.specs.List.{AllByRecursion}
 use Rattle.helix_values.specs.declared.cell.Cell.{Cell}
-use Rattle.helix_values.specs.Class.{Class, class_of_kind}
+use Rattle.helix_values.specs.Class.{class_of_kind}
 use Rattle.helix_profile.specs.Forest.{AreJoined}
 use Rattle.helix_profile.specs.Validity.{IsRelationFor}
-use Rattle.helix_profile.specs.Satisfaction.{is_null}
 use Rattle.helix_search.specs.declared.level.Level.{Level}
 use Rattle.helix_search.specs.declared.node.Neighbour.{Neighbour}
 use Rattle.helix_search.specs.Bounds.{IsValue}
@@ -19,16 +18,15 @@ use Rattle.helix_search.specs.Nodes.{Stands, HasIn, neighbours_in, AreNodes, IsN
 use Rattle.helix_links.specs.declared.pair_link.PairLink.{PairLink}
 use Rattle.helix_links.specs.Links.{class_of_link, MeetsLower, MeetsUpper, IsAllowed}
 use Rattle.helix_relations.specs.declared.signed.SignedRelation.{SignedRelation}
-use Rattle.helix_relations.specs.declared.part.Part.{Part}
-use Rattle.helix_relations.specs.Region.{RegionField, RegionContent, numbers_of, relations_of, IsRegionCell, FieldNumbered, IsLeftEnd, IsRightEnd, JoinsFields, IsRegion}
+use Rattle.helix_relations.specs.Region.{RegionContent, relations_of, IsRegionCell, IsLeftEnd, JoinsFields}
 use Rattle.helix_relations.specs.RegionGraph.{IsCellIn, StandTogether, are_joined, number_of, graph_of}
 use Rattle.helix_relations.specs.GraphLaws.{joined_from, passes, is_passing, stand_back}
-use Rattle.helix_relations.specs.SearchGraph.{IsRelated, IsSearchGraph}
+use Rattle.helix_relations.specs.SearchGraph.{IsSearchGraph}
 use Rattle.helix_relations.specs.SearchLaws.{cells_are_values}
 use Rattle.helix_relations.specs.Inner.Parts.{PartNode, field_of, fields_of, content_of}
 use Rattle.helix_relations.specs.Inner.PartLaws.{number_at}
 use Rattle.helix_relations.specs.Inner.Values.{class_of_part, IsPartValue, of_class}
-use Rattle.helix_relations.specs.Inner.Kept.{Joint, joint_of, joints_of, IsLinkTo, AreLinked, IsKeptNode, IsKept}
+use Rattle.helix_relations.specs.Inner.Kept.{Joint, joint_of, joints_of, IsLinkTo, IsKeptNode, IsKept}
 use Rattle.helix_relations.specs.Inner.KeptLaws.{each_at, joint_at, known_of}
 use Rattle.helix_relations.specs.Inner.RelatingLaws.{some_node}
 
