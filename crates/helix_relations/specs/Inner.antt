@@ -1,3 +1,12 @@
 pub mod Parts
+pub mod Values
+pub mod Kept
+pub mod KeptLaws
+pub mod SettingLaws
+pub mod FindingLaws
+pub mod RelatingLaws
+pub mod OpeningLaws
+pub mod SearchingLaws
+pub mod FixedLaws
 pub mod PartLaws
 pub mod PutLaws

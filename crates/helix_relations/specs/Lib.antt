@@ -20,3 +20,4 @@ pub mod GraphLaws
 pub mod RegionLaws
 pub mod SearchLaws
 pub mod RowLaws
+pub mod CountLaws

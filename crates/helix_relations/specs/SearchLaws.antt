@@ -87,7 +87,7 @@ alone_extends graph fixed depth u v none =
     ((λ extends. extends.0), (λ has. (has, λ c contains other. absurd (none c contains))))
 
 -- null is in no universe
-no_null_in : (kind : Kind) (v : Cell) → InUniverse kind v → is_null v ≡ false
+pub no_null_in : (kind : Kind) (v : Cell) → InUniverse kind v → is_null v ≡ false
 no_null_in kind.Boolean cell.Null none = absurd none
 no_null_in kind.Integer cell.Null none = absurd none
 no_null_in kind.Decimal cell.Null none = absurd none

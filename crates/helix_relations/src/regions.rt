@@ -10,7 +10,7 @@ use std::alloc::Global;
 use std::marker::Model;
 
 /// Regions in order, of which one at a time is lent for writing.
-#[derive(Debug, Drop)]
+#[derive(Drop)]
 pub struct Regions {
     items: Vec<Region>,
 }

@@ -8,11 +8,10 @@ use Rattle.std.specs.List.Sorted.{IsStrictlyIncreasing}
 use Rattle.helix_profile.specs.Validity.{IsRelationFor}
 use Rattle.helix_profile.specs.declared.relation.Relation.{Relation}
 use Rattle.helix_relations.specs.declared.signed.SignedRelation.{SignedRelation}
-use Rattle.helix_relations.specs.declared.part.Part.{Part}
 use Rattle.helix_relations.specs.Region.{RegionField, RegionContent, numbers_of, FieldNumbered, IsLeftEnd, IsRightEnd, JoinsFields, IsRegion}
 use Rattle.helix_relations.specs.Change.{with_changed, changed}
 use Rattle.helix_relations.specs.GraphLaws.{ordered}
-use Rattle.helix_relations.specs.Inner.Parts.{field_of, fields_of, IsIndexOf, IsNotBefore}
+use Rattle.helix_relations.specs.Inner.Parts.{PartNode, field_of, fields_of, IsIndexOf, IsNotBefore}
 
 -- a change that leaves the number, the field, and that null is forbidden
 pub record Keeps (change : RegionField → RegionField) : Type 0 where
@@ -90,21 +89,21 @@ module _ (change : RegionField → RegionField) (number : ℕ) where
       next : (n j : ℕ) → j < n → suc j < suc n
       next n j below = omega (arith, below)
 
-  replaced_at : (parts : List Part) (k : ℕ) (p d : Part) → k < length parts
+  replaced_at : (parts : List PartNode) (k : ℕ) (p d : PartNode) → k < length parts
       → slice_index (numbers_of (fields_of parts)) k ≡ number
       → ((j : ℕ) → j < length parts → j ≢ k → slice_index (numbers_of (fields_of parts)) j ≢ number)
       → field_of p ≡ change (field_of (get_or parts k d))
       → fields_of (set parts k p) ≡ with_changed change number (fields_of parts)
   replaced_at [] k p d below is others e = absurd (omega (arith, below))
   replaced_at (q ∷ parts) zero p d below is others e = ap₂ (λ g gs. g ∷ gs)
-      (e ∙ sym (ap (λ b. if b then change (field_of q) else field_of q) (eq-eqb q.number number is)))
+      (e ∙ sym (ap (λ b. if b then change (field_of q) else field_of q) (eq-eqb q.place number is)))
       (sym (unchanged (fields_of parts) (λ j j_in. others (suc j) (next parts j j_in) (λ same. omega (arith, same)))))
     where
-      next : (parts : List Part) (j : ℕ) → j < length (fields_of parts) → suc j < length (q ∷ parts)
+      next : (parts : List PartNode) (j : ℕ) → j < length (fields_of parts) → suc j < length (q ∷ parts)
       next parts j j_in = let same = length-map parts field_of in omega (arith, j_in, same)
   replaced_at (q ∷ parts) (suc k) p d below is others e = ap₂ (λ g gs. g ∷ gs)
       (sym (ap (λ b. if b then change (field_of q) else field_of q)
-      (ne_eqb q.number number (others 0 (omega arith) (λ same. omega (arith, same))))))
+      (ne_eqb q.place number (others 0 (omega arith) (λ same. omega (arith, same))))))
       (replaced_at parts k p d (omega (arith, below)) is
       (λ j j_in other. others (suc j) (next (length parts) j j_in) (λ same. other (before j k same))) e)
     where
@@ -114,7 +113,7 @@ module _ (change : RegionField → RegionField) (number : ℕ) where
       before : (j k : ℕ) → suc j ≡ suc k → j ≡ k
       before j k same = omega (arith, same)
 
-  pub part_changed : (parts : List Part) (k : ℕ) (p d : Part) → IsIndexOf parts number k
+  pub part_changed : (parts : List PartNode) (k : ℕ) (p d : PartNode) → IsIndexOf parts number k
       → IsStrictlyIncreasing (numbers_of (fields_of parts)) → field_of p ≡ change (field_of (get_or parts k d))
       → fields_of (set parts k p) ≡ with_changed change number (fields_of parts)
   part_changed parts k p d index ascending e = replaced_at parts k p d index.below index.is
@@ -127,22 +126,22 @@ module _ (change : RegionField → RegionField) (number : ℕ) where
           let two = length-map (fields_of parts) (λ field. field.number) in omega (arith, j_in, one, two)
 
 -- the number at an index
-pub number_at : (parts : List Part) (k : ℕ) (d : Part) → k < length parts
-    → slice_index (numbers_of (fields_of parts)) k ≡ (get_or parts k d).number
+pub number_at : (parts : List PartNode) (k : ℕ) (d : PartNode) → k < length parts
+    → slice_index (numbers_of (fields_of parts)) k ≡ (get_or parts k d).place
 number_at [] k d below = absurd (omega (arith, below))
 number_at (p ∷ parts) zero d below = refl
 number_at (p ∷ parts) (suc k) d below = number_at parts k d (omega (arith, below))
 
-pub none_before : (parts : List Part) (number k : ℕ) (p : Part) → k < length parts → p ≡ get_or parts k p
-    → p.number ≢ number → IsNotBefore parts number k → IsNotBefore parts number (k + 1)
+pub none_before : (parts : List PartNode) (number k : ℕ) (p : PartNode) → k < length parts → p ≡ get_or parts k p
+    → p.place ≢ number → IsNotBefore parts number k → IsNotBefore parts number (k + 1)
 none_before parts number k p below is other none j j_in same = ⊎_elim
-    (λ here. other (ap (λ x. x.number) is ∙ (sym (number_at parts k p below)
+    (λ here. other (ap (λ x. x.place) is ∙ (sym (number_at parts k p below)
     ∙ subst (λ i. slice_index (numbers_of (fields_of parts)) i ≡ number) here same)))
     (λ before. none j (omega (arith, j_in, before)) same)
     (cases_eq j k)
 
 -- a field that is there has an index
-pub has_index : (parts : List Part) (number : ℕ) → FieldNumbered (fields_of parts) number (λ field. Unit {0})
+pub has_index : (parts : List PartNode) (number : ℕ) → FieldNumbered (fields_of parts) number (λ field. Unit {0})
     → IsNotBefore parts number (length parts) → ⊥
 has_index [] number none before = none
 has_index (p ∷ parts) number (inl here) before = before 0 (omega arith) here.0
@@ -153,7 +152,7 @@ has_index (p ∷ parts) number (inr later) before =
     next n k below = omega (arith, below)
 
 -- a number stands at one index
-pub numbers_once : (parts : List Part) → IsStrictlyIncreasing (numbers_of (fields_of parts)) → (number j k : ℕ)
+pub numbers_once : (parts : List PartNode) → IsStrictlyIncreasing (numbers_of (fields_of parts)) → (number j k : ℕ)
     → j < length (numbers_of (fields_of parts)) → slice_index (numbers_of (fields_of parts)) j ≡ number
     → IsIndexOf parts number k → j ≡ k
 numbers_once parts ascending number j k j_in at index = ordered (numbers_of (fields_of parts))
@@ -163,9 +162,9 @@ numbers_once parts ascending number j k j_in at index = ordered (numbers_of (fie
     let three = index.below in omega (arith, one, two, three)) (at ∙ sym index.is)
 
 -- the part that was found
-pub index_found : (parts : List Part) (number k : ℕ) (p : Part) → k < length parts → p ≡ get_or parts k p
-    → p.number ≡ number → IsIndexOf parts number k
+pub index_found : (parts : List PartNode) (number k : ℕ) (p : PartNode) → k < length parts → p ≡ get_or parts k p
+    → p.place ≡ number → IsIndexOf parts number k
 index_found parts number k p below is found = record {
   below = below;
-  is = number_at parts k p below ∙ (ap (λ x. x.number) (sym is) ∙ found);
+  is = number_at parts k p below ∙ (ap (λ x. x.place) (sym is) ∙ found);
 }

@@ -1,5 +1,5 @@
 -- A part in the place of another one, and what a region is with it. Lemmas.
-use Rattle.std.proofs.Common.{◌≡◌, ℕ, zero, suc, ◌+◌, ◌<◌, inl, inr, List, [], ◌∷◌, ◌++◌, take, length, slice_index, get_or, set, All, Some, slice_get, false, Ok, Err, Result, OnOk, OnErr, refl, sym, ap, ap₂, ◌∙◌, subst, arith, append_assoc, append-nil}
+use Rattle.std.proofs.Common.{◌≡◌, ℕ, zero, suc, ◌+◌, ◌<◌, inl, inr, List, [], ◌∷◌, ◌++◌, take, length, slice_index, get_or, set, All, Some, slice_get, false, Ok, Err, Result, OnOk, OnErr, refl, sym, ap, ◌∙◌, subst, arith, append_assoc, append-nil}
 use Rattle.std.proofs.lemmas.List.{map-append, take_more}
 use Rattle.std.specs.List.{AllByRecursion}
 use Rattle.std.specs.List.Sorted.{IsStrictlyIncreasing}
@@ -9,15 +9,10 @@ use Rattle.helix_profile.specs.declared.field.Field.{Field}
 use Rattle.helix_domains.specs.Domain.{Restricted}
 use Rattle.helix_domains.specs.declared.atom.SignedAtom.{SignedAtom}
 use Rattle.helix_relations.specs.declared.signed.SignedRelation.{SignedRelation}
-use Rattle.helix_relations.specs.declared.part.Part.{Part}
 use Rattle.helix_relations.specs.Region.{RegionField, RegionContent, numbers_of, relations_of, FieldNumbered, JoinsFields, IsRegion}
 use Rattle.helix_relations.specs.Change.{opened_field, opened_fields, with_changed, changed, without_null, with_null_alone, with_domain, with_atom}
-use Rattle.helix_relations.specs.Inner.Parts.{field_of, fields_of, IsIndexOf}
+use Rattle.helix_relations.specs.Inner.Parts.{PartNode, field_of, fields_of, content_of, IsIndexOf}
 use Rattle.helix_relations.specs.Inner.PartLaws.{Keeps, still_region, part_changed, numbers_once}
-
--- the fields of a region as they are kept, its relations and its count
-abbrev pub content_of : List Part → List SignedRelation → ℕ → RegionContent
-content_of parts relations asked = record { fields = fields_of parts; relations = relations; asked = asked }
 
 pub keeps_without_null : Keeps without_null
 keeps_without_null = record { number = λ f. refl; field = λ f. refl; no_null = λ f null. refl }
@@ -29,7 +24,7 @@ pub keeps_domain : (domain : Restricted) → Keeps (with_domain domain)
 keeps_domain domain = record { number = λ f. refl; field = λ f. refl; no_null = λ f null. null }
 
 -- the part q at index k, which is that of the number, is replaced by p
-module _ (parts slice : List Part) (relations : List SignedRelation) (asked number k : ℕ) (p q : Part)
+module _ (parts slice : List PartNode) (relations : List SignedRelation) (asked number k : ℕ) (p q : PartNode)
     (region : IsRegion (content_of parts relations asked)) (same : slice ≡ parts) (index : IsIndexOf slice number k)
     (is : q ≡ get_or parts k q) where
   own_index : IsIndexOf parts number k
@@ -62,7 +57,7 @@ module _ (parts slice : List Part) (relations : List SignedRelation) (asked numb
   number_found (f ∷ fs) n Fact (inr later) = let found = number_found fs n Fact later in
       (suc found.0, omega (arith, found.1), found.2)
 
-  found_at : (Fact : RegionField → Type 0) (ps : List Part) (i : ℕ) (d : Part) → i < length ps
+  found_at : (Fact : RegionField → Type 0) (ps : List PartNode) (i : ℕ) (d : PartNode) → i < length ps
       → slice_index (numbers_of (fields_of ps)) i ≡ number
       → ((j : ℕ) → j < length (numbers_of (fields_of ps)) → slice_index (numbers_of (fields_of ps)) j ≡ number → j ≡ i)
       → FieldNumbered (fields_of ps) number Fact → Fact (field_of (get_or ps i d))
@@ -87,14 +82,14 @@ module _ (parts slice : List Part) (relations : List SignedRelation) (asked numb
       (λ j j_in at. numbers_once parts region.ascending number j k j_in at own_index)
       (subst (λ r. FieldNumbered r.fields number Fact) (sym view_is) numbered))
 
-any_numbered : (fs : List RegionField) (n : ℕ) (Fact : RegionField → Type 0) → FieldNumbered fs n Fact
+pub any_numbered : (fs : List RegionField) (n : ℕ) (Fact : RegionField → Type 0) → FieldNumbered fs n Fact
     → FieldNumbered fs n (λ field. Unit {0})
 any_numbered [] n Fact none = none
 any_numbered (f ∷ fs) n Fact (inl here) = inl (here.0, tt)
 any_numbered (f ∷ fs) n Fact (inr later) = inr (any_numbered fs n Fact later)
 
 -- so the field of the number is one of the parts
-pub is_there : (parts slice : List Part) (relations : List SignedRelation) (asked number : ℕ) (now : RegionContent)
+pub is_there : (parts slice : List PartNode) (relations : List SignedRelation) (asked number : ℕ) (now : RegionContent)
     → content_of parts relations asked ≡ now → slice ≡ parts → (Fact : RegionField → Type 0)
     → FieldNumbered now.fields number Fact → FieldNumbered (fields_of slice) number (λ field. Unit {0})
 is_there parts slice relations asked number now view_is same Fact numbered = any_numbered (fields_of slice) number Fact
@@ -102,12 +97,12 @@ is_there parts slice relations asked number now view_is same Fact numbered = any
     (subst (λ r. FieldNumbered r.fields number Fact) (sym view_is) numbered))
 
 -- one more relation
-all_after : (P : SignedRelation → Type 0) (rs : List SignedRelation) (signed : SignedRelation) → AllByRecursion P rs
+pub all_after : (P : SignedRelation → Type 0) (rs : List SignedRelation) (signed : SignedRelation) → AllByRecursion P rs
     → P signed → AllByRecursion P (rs ++ signed ∷ [])
 all_after P [] signed all last = (last, tt)
 all_after P (r ∷ rs) signed all last = (all.0, all_after P rs signed all.1 last)
 
-pub region_with : (parts : List Part) (old new : List SignedRelation) (asked : ℕ) (signed : SignedRelation)
+pub region_with : (parts : List PartNode) (old new : List SignedRelation) (asked : ℕ) (signed : SignedRelation)
     → (result : Result (Unit {0}) Memory) → OnOk result (new ≡ old ++ signed ∷ []) → OnErr result (new ≡ old)
     → IsRegion (content_of parts old asked) → (now : RegionContent) → content_of parts old asked ≡ now
     → JoinsFields now.fields signed.relation → IsForest (relations_of now.relations ++ signed.relation ∷ [])
@@ -139,7 +134,7 @@ numbers_opened fields (n ∷ ns) all = let found = some_at fields n (all 0 0 (om
     ap (λ o. numbers_of (opened_field n o ++ opened_fields fields ns)) found.1
     ∙ ap (λ rest. n ∷ rest) (numbers_opened fields ns (λ k d below. all (suc k) d (omega (arith, below))))
 
-pub region_opened : (fields own : List Field) (ns : List ℕ) (parts : List Part) (relations : List SignedRelation)
+pub region_opened : (fields own : List Field) (ns : List ℕ) (parts : List PartNode) (relations : List SignedRelation)
     → fields ≡ own → All (λ n. n < length own) ns → IsStrictlyIncreasing ns → fields_of parts ≡ opened_fields fields ns
     → relations ≡ [] → IsRegion (content_of parts relations 0)
 region_opened fields own ns parts relations same all ascending are none =
@@ -179,39 +174,38 @@ opened_more fields ns i n field within is found =
     ∙ (opened_append fields (take i ns) (get_or ns i 0 ∷ []) ∙ ap (λ l. opened_fields fields (take i ns) ++ l) last))
 
 pub parts_more : (fields : List Field) (ns : List ℕ) (i n : ℕ) (field : Field) → i < length ns → n ≡ get_or ns i 0
-    → slice_get fields n ≡ Some field → (parts new : List Part) (domain : Restricted) → domain.field ≡ field
-    → domain.atoms ≡ [] → fields_of parts ≡ opened_fields fields (take i ns)
-    → new ≡ parts ++ record { number = n; no_null = false; only_null = false; domain = domain } ∷ []
+    → slice_get fields n ≡ Some field → (parts new : List PartNode) (node : PartNode)
+    → field_of node ≡ record { number = n; field = field; no_null = false; only_null = false; atoms = [] }
+    → fields_of parts ≡ opened_fields fields (take i ns) → new ≡ parts ++ node ∷ []
     → fields_of new ≡ opened_fields fields (take (i + 1) ns)
-parts_more fields ns i n field within is found parts new domain field_is none are pushed =
+parts_more fields ns i n field within is found parts new node node_is are pushed =
     ap fields_of pushed
-    ∙ (map-append field_of parts (record { number = n; no_null = false; only_null = false; domain = domain } ∷ [])
-    ∙ (ap (λ fs. fs ++ field_of (record { number = n; no_null = false; only_null = false; domain = domain }) ∷ []) are
-    ∙ (ap₂ (λ f atoms. opened_fields fields (take i ns)
-    ++ record { number = n; field = f; no_null = false; only_null = false; atoms = atoms } ∷ []) field_is none
+    ∙ (map-append field_of parts (node ∷ [])
+    ∙ (ap (λ fs. fs ++ field_of node ∷ []) are
+    ∙ (ap (λ f. opened_fields fields (take i ns) ++ f ∷ []) node_is
     ∙ opened_more fields ns i n field within is found)))
 
 -- another domain of the same field
-pub domain_put : (q : Part) (domain : Restricted) → domain.field ≡ q.domain.field
-    → field_of (record q { domain = domain }) ≡ with_domain domain (field_of q)
+pub domain_put : (q : PartNode) (domain : Restricted) → domain.field ≡ q.values.domain.field
+    → field_of (record q { values = record q.values { domain = domain } }) ≡ with_domain domain (field_of q)
 domain_put q domain same = ap
-    (λ f. let new : RegionField = record {
-      number = q.number;
-      field = f;
-      no_null = q.no_null;
-      only_null = q.only_null;
+    (λ field. let new : RegionField = record {
+      number = q.place;
+      field = field;
+      no_null = q.values.no_null;
+      only_null = q.values.only_null;
       atoms = domain.atoms;
     } in new)
     same
 
-pub atom_put : (q : Part) (domain : Restricted) (signed : SignedAtom) → domain.field ≡ q.domain.field
-    → domain.atoms ≡ q.domain.atoms ++ signed ∷ []
-    → field_of (record q { domain = domain }) ≡ with_atom signed (field_of q)
+pub atom_put : (q : PartNode) (domain : Restricted) (signed : SignedAtom) → domain.field ≡ q.values.domain.field
+    → domain.atoms ≡ q.values.domain.atoms ++ signed ∷ []
+    → field_of (record q { values = record q.values { domain = domain } }) ≡ with_atom signed (field_of q)
 atom_put q domain signed same more = domain_put q domain same
     ∙ ap (λ atoms. let new : RegionField = record {
-      number = q.number;
-      field = q.domain.field;
-      no_null = q.no_null;
-      only_null = q.only_null;
+      number = q.place;
+      field = q.values.domain.field;
+      no_null = q.values.no_null;
+      only_null = q.values.only_null;
       atoms = atoms;
     } in new) more
