@@ -1,16 +1,17 @@
 -- What is promised of the paths of a part, by the search from its constraints.
 use Rattle.std.proofs.Common.{◌≡◌, ◌↔◌, ℕ, zero, suc, ◌+◌, ◌==◌, ◌⊎◌, inl, inr, Bool, true, false, ◌&&◌, ◌||◌, Option, None, Some, List, [], ◌∷◌, map, Contains, slice_get, Result, IfOk, refl, sym, ap, subst, ◌∙◌, arith, add-zero, zero-add}
 use Rattle.std.proofs.lemmas.Bool.{false≢true, eq-eqb}
-use Rattle.std.proofs.lemmas.List.Elements.{Contains-append_right}
+use Rattle.std.proofs.lemmas.List.Elements.{Contains-append_left, Contains-append_right}
 use Rattle.std.specs.List.{AllByRecursion, filter_map, cons_option, list_any}
 use Rattle.helix_base.specs.declared.memory.Memory.{Memory}
 use Rattle.helix_profile.specs.Content.{Content}
-use Rattle.helix_profile.specs.Fields.{fields_of}
+use Rattle.helix_profile.specs.Fields.{fields_of, relations_of, all_relations}
 use Rattle.helix_profile.specs.Good.{IsCellOf, AreCellsOf}
 use Rattle.helix_profile.specs.Satisfaction.{is_null, AllSatisfied}
 use Rattle.helix_profile.specs.Validity.{IsConstraintFor, IsValidProfile}
 use Rattle.helix_profile.specs.declared.constraint.Constraint.{Constraint}
 use Rattle.helix_profile.specs.declared.field.Field.{Field}
+use Rattle.helix_profile.specs.declared.relation.Relation.{Relation}
 use Rattle.helix_partition.specs.declared.partition.Partition.{Partition}
 use Rattle.helix_tree.specs.TreeLaws.{tree_means}
 use Rattle.helix_tree.specs.TreeOf.{signed_tree}
@@ -23,7 +24,8 @@ use Rattle.helix_options.proofs.Fewness.{first_few}
 use Rattle.helix_options.proofs.Refuting.{Fits}
 use Rattle.helix_options.proofs.Demanding.{if_ok}
 use Rattle.helix_options.proofs.Truth.{path_true, tree_true, tree-true, path-true}
-use Rattle.helix_options.proofs.Valid.{TreeValid, all_valid, tree-valid}
+use Rattle.helix_options.proofs.Valid.{TreeValid, all_valid}
+use Rattle.helix_options.proofs.ValidTrees.{Known, tree-valid}
 use Rattle.helix_options.specs.Parts.{IsPartOf}
 use Rattle.helix_options.specs.Paths.{PathHolds, ExactlyOneHolds, NoneHolds, constraints_of, IsExactFor, IsFewFor, AreValidFor}
 use Rattle.helix_options.specs.Inner.Search.{Found, one_path, search, search_all, first_demands, paths_left}
@@ -162,7 +164,27 @@ module _ (profile : Content) (part : Partition) where
   got P (first ∷ xs) (suc n) x all is = got P xs n x all.1 is
 
   abbrev Good : Constraint → Type 0
-  Good c = IsConstraintFor profile.fields c × AllByRecursion (Contains part.fields) (fields_of c)
+  Good c = IsConstraintFor profile.fields c
+      × Known profile.fields part.fields (all_relations profile.constraints) (fields_of c) (relations_of c)
+
+  -- the relations of a constraint are among those of all
+  listed : (constraints : List Constraint) (number : ℕ) (c : Constraint) → slice_get constraints number ≡ Some c
+      → (r : Relation) → Contains (relations_of c) r → Contains (all_relations constraints) r
+  listed [] number c is r has = cc is
+  listed (first ∷ constraints) zero c is r has =
+      Contains-append_left (relations_of first) (all_relations constraints) r
+      (subst (λ d. Contains (relations_of d) r) (sym (same_inside first c is)) has)
+  listed (first ∷ constraints) (suc number) c is r has =
+      Contains-append_right (relations_of first) (all_relations constraints) r
+      (listed constraints number c is r has)
+
+  each_listed : (all joins : List Relation) → ((r : Relation) → Contains joins r → Contains all r)
+      → AllByRecursion (Contains all) joins
+  each_listed all [] among = tt
+  each_listed all (r ∷ joins) among = (
+    among r (0, omega arith, refl),
+    each_listed all joins (λ other there. among other (Contains-append_right (r ∷ []) joins other there)),
+  )
 
   named : (test : ℕ → Type 0) (fields : List ℕ)
       → ((field : ℕ) → list_any (λ other. other == field) fields ≡ true → test field) → AllByRecursion test fields
@@ -192,20 +214,27 @@ module _ (profile : Content) (part : Partition) where
             (ap (λ found. cons_option found (filter_map (slice_get profile.constraints) numbers)) (sym is)) (
               (
                 got (IsConstraintFor profile.fields) profile.constraints number c valid.constraints_fit is,
-                named (Contains part.fields) (fields_of c) (λ field names. own.own_fields number field c
-                    (among number (0, omega arith, refl)) is names),
+                record {
+                  own = named (Contains part.fields) (fields_of c) (λ field names. own.own_fields number field c
+                      (among number (0, omega arith, refl)) is names);
+                  listed = each_listed (all_relations profile.constraints) (relations_of c)
+                      (listed profile.constraints number c is);
+                },
               ),
               others,
             )
 
     demands_valid : (constraints : List Constraint) → AllByRecursion Good constraints
-        → AllByRecursion (λ demand. TreeValid profile.fields part.fields demand.tree) (first_demands constraints)
+        → AllByRecursion (λ demand. TreeValid profile.fields part.fields (all_relations profile.constraints) demand.tree) (first_demands constraints)
     demands_valid [] all = tt
-    demands_valid (c ∷ constraints) all =
-        (tree-valid profile.fields part.fields c true all.0.0 all.0.1, demands_valid constraints all.1)
+    demands_valid (c ∷ constraints) all = (
+      tree-valid profile.fields part.fields (all_relations profile.constraints) c true all.0.0 all.0.1,
+      demands_valid constraints all.1,
+    )
 
     pub opened_valid : AreValidFor profile part first_paths
-    opened_valid = all_valid profile.fields part.fields (nullable_of profile.fields)
+    opened_valid = all_valid profile.fields part.fields (all_relations profile.constraints)
+        (nullable_of profile.fields)
         (first_demands (constraints_of profile part)) one_path []
         (demands_valid (constraints_of profile part) (picked part.constraints (λ number among. among))) tt
         (λ literals all. (all, tt))

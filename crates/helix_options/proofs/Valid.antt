@@ -1,19 +1,12 @@
 -- The literals of the paths that a search finds are those of its tree, or say whether an end of a relation is null.
-use Rattle.std.proofs.Common.{ℕ, Bool, true, false, not, List, [], ◌∷◌, ◌++◌, Contains}
+use Rattle.std.proofs.Common.{refl, ℕ, Bool, true, false, not, List, [], ◌∷◌, ◌++◌}
 use Rattle.std.specs.List.{AllByRecursion}
-use Rattle.helix_profile.specs.Fields.{fields_of, fields_of_parts}
-use Rattle.helix_profile.specs.Validity.{IsConstraintFor, ArePartsFor}
-use Rattle.helix_profile.specs.declared.constraint.Constraint.{Constraint, Atom, Related, Not', AllOf', AnyOf', If', Row_of-Constraint, end_of-Constraint, more_of-Constraint, None', Some'}
 use Rattle.helix_profile.specs.declared.field.Field.{Field}
 use Rattle.helix_profile.specs.declared.relation.Relation.{Relation}
-use Rattle.helix_profile.specs.declared.test.Test.{Test}
-use Rattle.helix_profile.specs.declared.test.Test.TheVariants as test
-use Rattle.helix_tree.specs.TreeOf.{literal_of, joined_tree, signed_tree, signed_trees}
 use Rattle.helix_tree.specs.declared.literal.Literal.{Literal}
 use Rattle.helix_tree.specs.declared.literal.Literal.TheVariants.{Null, NotNull, Plain, Joined}
 use Rattle.helix_tree.specs.declared.tree.Tree.{Tree, Lit, All', Any', Row_of-Tree, end_of-Tree, more_of-Tree}
-use Rattle.helix_tree.specs.declared.tree.Tree.TheViews.{All, Any}
-use Rattle.helix_options.specs.Literals.{IsPlain, IsTestOf, IsRelationOf, IsLiteralOf}
+use Rattle.helix_options.specs.Literals.{IsRelationOf, IsLiteralOf}
 use Rattle.helix_options.specs.Inner.Literals.{signed, standing_of}
 use Rattle.helix_options.specs.Inner.Search.{Found, nothing, both, one_step, by_standing, with_literal, with_relation, with_open, tree_standing, search, search_each, search_some, search_all}
 use Rattle.helix_options.specs.declared.branch.Demand.{Demand}
@@ -30,14 +23,19 @@ pub all-parts : {T : Type 0} (P : T → Type 0) (xs ys : List T) → AllByRecurs
 all-parts P [] ys all = (tt, all)
 all-parts P (x ∷ xs) ys all = let others = all-parts P xs ys all.1 in ((all.0, others.0), others.1)
 
-module _ (fields : List Field) (part : List ℕ) where
+module _ (fields : List Field) (part : List ℕ) (relations : List Relation) where
   abbrev Valid : Literal → Type 0
-  Valid literal = IsLiteralOf fields part literal
+  Valid literal = IsLiteralOf fields part relations literal
+
+  -- the same of a literal of a tree, whose relations may be weak
+  abbrev InTree : Literal → Type 0
+  InTree (Joined relation sign strict) = IsRelationOf fields part relations relation
+  InTree other = Valid other
 
   abbrev mutual
     -- all literals of a tree are valid
     pub TreeValid : Tree → Type 0
-    TreeValid (Lit literal) = Valid literal
+    TreeValid (Lit literal) = InTree literal
     TreeValid (All' shape parts) = PartsValid parts
     TreeValid (Any' shape parts) = PartsValid parts
 
@@ -51,7 +49,7 @@ module _ (fields : List Field) (part : List ℕ) where
   abbrev pub Keeps : (List Literal → Found) → Type 0
   Keeps rest = (literals : List Literal) → AllByRecursion Valid literals → PathsValid (rest literals)
 
-  signed-valid : (literal : Literal) (sign : Bool) → Valid literal → Valid (signed literal sign)
+  signed-valid : (literal : Literal) (sign : Bool) → InTree literal → InTree (signed literal sign)
   signed-valid literal true valid = valid
   signed-valid (Null field) false valid = valid
   signed-valid (NotNull field) false valid = valid
@@ -79,7 +77,7 @@ module _ (fields : List Field) (part : List ℕ) where
         (keeps literals all) tt (keeps (literals ++ literal ∷ []) (pushed literals literal all valid))
 
     relation_valid : (relation : Relation) (sign : Bool) (literals : List Literal) (rest : List Literal → Found)
-        → IsRelationOf fields part relation → AllByRecursion Valid literals → Keeps rest
+        → IsRelationOf fields part relations relation → AllByRecursion Valid literals → Keeps rest
         → PathsValid (with_relation nullable relation sign literals rest)
     relation_valid relation sign literals rest valid all keeps =
         joined (with_literal nullable (Null relation.left) literals rest)
@@ -93,9 +91,9 @@ module _ (fields : List Field) (part : List ℕ) where
         (literal_valid (Null relation.right) literals
         (λ more. with_literal nullable (NotNull relation.left) more rest) valid.own_right all
         (λ more all_more. literal_valid (NotNull relation.left) more rest valid.own_left all_more keeps))
-        (literal_valid (Joined relation sign true) literals rest valid all keeps))
+        (literal_valid (Joined relation sign true) literals rest (refl, valid) all keeps))
 
-    open_valid : (literal : Literal) (literals : List Literal) (rest : List Literal → Found) → Valid literal
+    open_valid : (literal : Literal) (literals : List Literal) (rest : List Literal → Found) → InTree literal
         → AllByRecursion Valid literals → Keeps rest → PathsValid (with_open nullable literal literals rest)
     open_valid (Null field) literals rest valid all keeps =
         keeps (literals ++ Null field ∷ []) (pushed literals (Null field) all valid)
@@ -104,7 +102,8 @@ module _ (fields : List Field) (part : List ℕ) where
     open_valid (Plain atom sign strict) literals rest valid all keeps =
         keeps (literals ++ Plain atom sign strict ∷ []) (pushed literals (Plain atom sign strict) all valid)
     open_valid (Joined relation sign true) literals rest valid all keeps =
-        keeps (literals ++ Joined relation sign true ∷ []) (pushed literals (Joined relation sign true) all valid)
+        keeps (literals ++ Joined relation sign true ∷ [])
+        (pushed literals (Joined relation sign true) all (refl, valid))
     open_valid (Joined relation sign false) literals rest valid all keeps =
         relation_valid relation sign literals rest valid all keeps
 
@@ -157,93 +156,3 @@ module _ (fields : List Field) (part : List ℕ) where
     all_valid (demand ∷ demands) rest literals valid all keeps = all_valid demands
         (λ more. search nullable demand.tree demand.sign more rest) literals valid.1 all
         (λ more all_more. search_valid demand.tree demand.sign more rest valid.0 all_more keeps)
-
-  -- The tree of a valid constraint has valid literals.
-
-  All-valid : (trees : List Tree) → AllByRecursion TreeValid trees → TreeValid (All trees)
-  unfolding Rattle.helix_tree.specs.declared.tree.Tree.TheBlock.hidden-the_row-Tree-0 denote.Hole.Carrier.hidden
-  All-valid [] all = tt
-  All-valid (tree ∷ trees) all = (all.0, All-valid trees all.1)
-
-  Any-valid : (trees : List Tree) → AllByRecursion TreeValid trees → TreeValid (Any trees)
-  unfolding Rattle.helix_tree.specs.declared.tree.Tree.TheBlock.hidden-the_row-Tree-0 denote.Hole.Carrier.hidden
-  Any-valid [] all = tt
-  Any-valid (tree ∷ trees) all = (all.0, Any-valid trees all.1)
-
-  joined-valid : (trees : List Tree) → AllByRecursion TreeValid trees → TreeValid (joined_tree trees)
-  joined-valid [] all = All-valid [] all
-  joined-valid (tree ∷ []) all = all.0
-  joined-valid (tree ∷ other ∷ trees) all = All-valid (tree ∷ other ∷ trees) all
-
-  test-valid : (field : ℕ) (t : Test) (sign : Bool) → Contains part field
-      → (IsPlain t → IsTestOf fields part (record { field = field; test = t })) → Valid (literal_of field t sign)
-  test-valid field (test.IsNull true) true own plain = own
-  test-valid field (test.IsNull true) false own plain = own
-  test-valid field (test.IsNull false) true own plain = own
-  test-valid field (test.IsNull false) false own plain = own
-  test-valid field t sign own plain = plain tt
-
-  abbrev Own : List ℕ → Type 0
-  Own named = AllByRecursion (Contains part) named
-
-  mutual
-    pub tree-valid : (c : Constraint) (sign : Bool) → IsConstraintFor fields c → Own (fields_of c)
-        → TreeValid (signed_tree c sign)
-    tree-valid (Atom atom) sign valid own = test-valid atom.field atom.test sign own.0
-        (λ plain. record { own = own.0; plain = plain; valid = valid })
-    tree-valid (Related relation) sign valid own =
-        record { own_left = own.0; own_right = own.1.0; valid = valid }
-    tree-valid (Not' pointer negated) sign valid own =
-        joined-valid (signed_trees negated (not sign)) (parts-valid negated (not sign) valid own)
-    tree-valid (AllOf' shape parts) true valid own =
-        All-valid (signed_trees parts true) (parts-valid parts true valid.1 own)
-    tree-valid (AllOf' shape parts) false valid own =
-        Any-valid (signed_trees parts false) (parts-valid parts false valid.1 own)
-    tree-valid (AnyOf' shape parts) true valid own =
-        Any-valid (signed_trees parts true) (parts-valid parts true valid.1 own)
-    tree-valid (AnyOf' shape parts) false valid own =
-        All-valid (signed_trees parts false) (parts-valid parts false valid.1 own)
-    tree-valid (If' pointer condition other_pointer consequent None') true valid own =
-        let owns = all-parts (Contains part) (fields_of_parts condition) (fields_of_parts consequent ++ []) own in
-        let ends = all-parts (Contains part) (fields_of_parts consequent) [] owns.1 in
-        let met = joined-valid (signed_trees condition true) (parts-valid condition true valid.0 owns.0) in
-        let unmet = joined-valid (signed_trees condition false) (parts-valid condition false valid.0 owns.0) in
-        let then = joined-valid (signed_trees consequent true) (parts-valid consequent true valid.1 ends.0) in
-        Any-valid (All (joined_tree (signed_trees condition true) ∷ joined_tree (signed_trees consequent true) ∷ [])
-        ∷ joined_tree (signed_trees condition false) ∷ []) (
-          All-valid (joined_tree (signed_trees condition true) ∷ joined_tree (signed_trees consequent true) ∷ [])
-              (met, (then, tt)),
-          (unmet, tt),
-        )
-    tree-valid (If' pointer condition other_pointer consequent None') false valid own =
-        let owns = all-parts (Contains part) (fields_of_parts condition) (fields_of_parts consequent ++ []) own in
-        let ends = all-parts (Contains part) (fields_of_parts consequent) [] owns.1 in
-        let met = joined-valid (signed_trees condition true) (parts-valid condition true valid.0 owns.0) in
-        let then = joined-valid (signed_trees consequent false) (parts-valid consequent false valid.1 ends.0) in
-        All-valid (joined_tree (signed_trees condition true) ∷ joined_tree (signed_trees consequent false) ∷ [])
-        (met, (then, tt))
-    tree-valid (If' pointer condition other_pointer consequent (Some' else_pointer other)) sign valid own =
-        let owns = all-parts (Contains part) (fields_of_parts condition)
-        (fields_of_parts consequent ++ fields_of_parts other) own in
-        let ends = all-parts (Contains part) (fields_of_parts consequent) (fields_of_parts other) owns.1 in
-        let met = joined-valid (signed_trees condition true) (parts-valid condition true valid.0 owns.0) in
-        let unmet = joined-valid (signed_trees condition false) (parts-valid condition false valid.0 owns.0) in
-        let then = joined-valid (signed_trees consequent sign) (parts-valid consequent sign valid.1 ends.0) in
-        let otherwise = joined-valid (signed_trees other sign) (parts-valid other sign valid.2 ends.1) in
-        Any-valid (All (joined_tree (signed_trees condition true) ∷ joined_tree (signed_trees consequent sign) ∷ [])
-        ∷ All (joined_tree (signed_trees condition false) ∷ joined_tree (signed_trees other sign) ∷ []) ∷ []) (
-          All-valid (joined_tree (signed_trees condition true) ∷ joined_tree (signed_trees consequent sign) ∷ [])
-              (met, (then, tt)),
-          (
-            All-valid (joined_tree (signed_trees condition false) ∷ joined_tree (signed_trees other sign) ∷ [])
-                (unmet, (otherwise, tt)),
-            tt,
-          ),
-        )
-
-    parts-valid : {m : _} (parts : Row_of-Constraint m) (sign : Bool) → ArePartsFor fields parts
-        → Own (fields_of_parts parts) → AllByRecursion TreeValid (signed_trees parts sign)
-    parts-valid end_of-Constraint sign valid own = tt
-    parts-valid (more_of-Constraint c parts) sign valid own =
-        let owns = all-parts (Contains part) (fields_of c) (fields_of_parts parts) own in
-        (tree-valid c sign valid.0 owns.0, parts-valid parts sign valid.1 owns.1)

@@ -1,3 +1,5 @@
 pub mod Clashes
+pub mod Keeping
 pub mod Literals
+pub mod Narrowing
 pub mod Search

@@ -2,5 +2,6 @@
 pub mod Paths
 pub mod Parts
 pub mod Literals
+pub mod Regions
 -- The crate's inner words.
 pub mod Inner

@@ -1,5 +1,5 @@
 -- Literals that speak of the fields of a part, in ways that their kinds allow.
-use Rattle.std.specs.Prelude.{ℕ, List, Contains}
+use Rattle.std.specs.Prelude.{◌≡◌, ℕ, true, List, Contains}
 use Rattle.helix_profile.specs.Validity.{FieldWith, IsTestFor, IsRelationFor}
 use Rattle.helix_profile.specs.declared.field.Field.{Field}
 use Rattle.helix_profile.specs.declared.relation.Relation.{Relation}
@@ -20,16 +20,20 @@ pub record IsTestOf (fields : List Field) (part : List ℕ) (atom : Atom) : Type
   pub plain : IsPlain atom.test
   pub valid : FieldWith fields atom.field (λ field. IsTestFor field.kind atom.test)
 
--- both ends are fields of the part, and the relation is one for them
-pub record IsRelationOf (fields : List Field) (part : List ℕ) (relation : Relation) : Type 0 where
+-- the relation is one of a list, both its ends are fields of the part, and it is a relation for them
+pub record IsRelationOf (fields : List Field) (part : List ℕ) (relations : List Relation) (relation : Relation) :
+    Type 0 where
+  pub listed : Contains relations relation
   pub own_left : Contains part relation.left
   pub own_right : Contains part relation.right
   pub valid : FieldWith fields relation.left (λ left. FieldWith fields relation.right
       (λ right. IsRelationFor left right relation))
 
--- a valid literal, by the profile's fields and the numbers of those of the part
-abbrev pub IsLiteralOf : List Field → List ℕ → Literal → Type 0
-IsLiteralOf fields part (Null field) = Contains part field
-IsLiteralOf fields part (NotNull field) = Contains part field
-IsLiteralOf fields part (Plain atom sign strict) = IsTestOf fields part atom
-IsLiteralOf fields part (Joined relation sign strict) = IsRelationOf fields part relation
+-- A valid literal of a path, by the profile's fields, the numbers of those of the part, and the profile's relations. A
+-- relation is a strict one.
+abbrev pub IsLiteralOf : List Field → List ℕ → List Relation → Literal → Type 0
+IsLiteralOf fields part relations (Null field) = Contains part field
+IsLiteralOf fields part relations (NotNull field) = Contains part field
+IsLiteralOf fields part relations (Plain atom sign strict) = IsTestOf fields part atom
+IsLiteralOf fields part relations (Joined relation sign strict) =
+    (strict ≡ true) × IsRelationOf fields part relations relation

@@ -2,6 +2,7 @@
 use Rattle.std.specs.Prelude.{◌≤◌, true, List, [], ◌∷◌, ◌⊎◌, length, slice_get}
 use Rattle.std.specs.List.{AllByRecursion, filter_map}
 use Rattle.helix_profile.specs.Content.{Content}
+use Rattle.helix_profile.specs.Fields.{all_relations}
 use Rattle.helix_profile.specs.Good.{AreCellsOf}
 use Rattle.helix_profile.specs.Satisfaction.{AllSatisfied}
 use Rattle.helix_profile.specs.Width.{product_of_widths}
@@ -43,7 +44,8 @@ pub record IsExactFor (profile : Content) (part : Partition) (paths : List (List
 abbrev pub IsFewFor : Content → Partition → List (List Literal) → Type 0
 IsFewFor profile part paths = length paths ≤ product_of_widths (λ _. true) (constraints_of profile part)
 
--- all literals are valid ones about fields of the part
+-- all literals are valid ones about fields of the part, and their relations are strict ones of the profile
 abbrev pub AreValidFor : Content → Partition → List (List Literal) → Type 0
 AreValidFor profile part paths =
-    AllByRecursion (λ path. AllByRecursion (IsLiteralOf profile.fields part.fields) path) paths
+    AllByRecursion
+    (λ path. AllByRecursion (IsLiteralOf profile.fields part.fields (all_relations profile.constraints)) path) paths

@@ -1,7 +1,9 @@
 mod build;
+mod flags;
 mod holding;
 
 use build::{Step, constraints};
+use flags::{a_null_flag, first_regions, one_flag};
 use helix_profile::all_satisfied;
 use holding::{all_paths, holding, is_row_of, row_of};
 use std::test::Fail;
@@ -113,5 +115,14 @@ fn one_path_holds_where_the_constraints_are_satisfied(rt: HostRuntime) -> Result
             }
         }
     }
+    Ok(())
+}
+
+#[test]
+fn a_part_has_regions(rt: HostRuntime) -> Result<(), Fail> {
+    let free = first_regions(rt.alloc(), &one_flag(rt.alloc())?)?;
+    assert_eq!(rt; free, Some(1));
+    let null = first_regions(rt.alloc(), &a_null_flag(rt.alloc())?)?;
+    assert_eq!(rt; null, Some(1));
     Ok(())
 }

@@ -1,0 +1,7 @@
+mod Fixing
+mod Stepping
+mod Asked
+mod Going
+mod Existing
+mod Beginning
+mod Walkable

@@ -43,3 +43,13 @@ module _ {L : Type 0} (IsNoted : L → Step → L → Type 0) where
             (raised_grows old.counts.domain last_count domain_within).0;
         moves = subst (λ k. k ≤ new.counts.moves) ticked_moves grown.0;
       }
+
+  -- and it raises the count of questions by one at most
+  pub asks_few : (most : ℕ) (old new : Tally L) → old.counts.moves ≤ last_count → AsksOnce IsNoted most old new
+      → new.counts.domain ≤ old.counts.domain + 1
+  asks_few most old new moves_within asks =
+      let ticked_moves : asks.asked.counts.moves ≡ old.counts.moves = ap (λ counts. counts.moves) asks.counted in
+      let grown = moves_grow asks.moves.moves asks.asked new
+      (subst (λ k. k ≤ last_count) (sym ticked_moves) moves_within) asks.moves.moved in
+      subst (λ k. k ≤ old.counts.domain + 1) (sym (grown.2 ∙ ap (λ counts. counts.domain) asks.counted))
+      (omega arith)

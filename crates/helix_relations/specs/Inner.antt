@@ -1,11 +1,13 @@
 pub mod Parts
 pub mod Values
+pub mod Marking
 pub mod Kept
 pub mod KeptLaws
 pub mod SettingLaws
 pub mod FindingLaws
 pub mod RelatingLaws
 pub mod OpeningLaws
+pub mod Searched
 pub mod SearchingLaws
 pub mod FixedLaws
 pub mod PartLaws

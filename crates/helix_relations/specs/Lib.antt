@@ -5,6 +5,8 @@ pub mod RegionCode
 pub mod RegionGraph
 pub mod SearchGraph
 pub mod Change
+pub mod Asking
+pub mod Pieces
 pub mod Lending
 -- The crate's inner words.
 pub mod Inner
@@ -21,3 +23,5 @@ pub mod RegionLaws
 pub mod SearchLaws
 pub mod RowLaws
 pub mod CountLaws
+pub mod PieceLaws
+pub mod PieceCells

@@ -84,7 +84,7 @@ module _ (region : RegionContent) (is : IsRegion region) where
   abbrev by_node : List Cell → ℕ → Cell
   by_node row u = cell_at row (number_of region u)
 
-  good_of_row : (row : List Cell) → IsRegionRow region row → IsGoodRow (graph_of region) count (by_node row)
+  pub good_of_row : (row : List Cell) → IsRegionRow region row → IsGoodRow (graph_of region) count (by_node row)
   good_of_row row of = record {
     has = λ u below. cells_at row region.fields of.cells u below;
     joined = λ u c below contains. stand_in row region.relations of.relations (number_of region u) (number_of region c);
@@ -154,7 +154,7 @@ module _ (region : RegionContent) (is : IsRegion region) where
 
   -- the fixed cells of a row that begins with a prefix
   module _ (prefix : List Cell) (level : ℕ) (within : level < count) where
-    agree_at : (ns : List ℕ) (level : ℕ) (row : List Cell) → AgreeAt (take level ns) row prefix → (u : ℕ) → u < level
+    pub agree_at : (ns : List ℕ) (level : ℕ) (row : List Cell) → AgreeAt (take level ns) row prefix → (u : ℕ) → u < level
         → u < length ns → cell_at row (slice_index ns u) ≡ cell_at prefix (slice_index ns u)
     agree_at [] level row agree u below in_ns = absurd (omega (arith, in_ns))
     agree_at (n ∷ ns) zero row agree u below in_ns = absurd (omega (arith, below))

@@ -32,7 +32,7 @@ module _ (region : RegionContent) (is : IsRegion region) (search : Graph) (like 
   forest = graph_is_forest region is
 
   -- a neighbour is related back
-  related_back : (u c : ℕ) → u < length region.fields → Contains ((graph_of region).neighbours u) c
+  pub related_back : (u c : ℕ) → u < length region.fields → Contains ((graph_of region).neighbours u) c
       → IsRelated region c
   related_back u c below contains =
       let pair : AreJoined (node_relations region) u c = (forest.neighbours u c below).0 contains in

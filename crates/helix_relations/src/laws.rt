@@ -1,12 +1,16 @@
 //! Laws of cells that extend over trees, each the contract of a function that does nothing.
 
-ghost use Rattle.std.specs.Prelude.{◌≡◌, ◌<◌, ◌≤◌, ◌↔◌, ℕ, List, Option, None, length};
+ghost use Rattle.std.specs.Prelude.{◌≡◌, ◌<◌, ◌≤◌, ◌↔◌, ℕ, List, Option, None, length, take};
 ghost use Rattle.helix_values.specs.declared.cell.Cell.{Cell};
 ghost use Rattle.helix_profile.specs.declared.relation.Relation.{Relation};
 ghost use Rattle.helix_search.specs.Extending.{Extends};
 ghost use Rattle.helix_relations.specs.Region.{RegionContent, numbers_of, IsRegion, IsRegionRow, AgreeAt, BeginsWith, ExtendsTo};
 ghost use Rattle.helix_relations.specs.RegionGraph.{graph_of, fixed_by, node_relations};
 ghost use Rattle.helix_relations.specs.SearchGraph.{IsRelated, IsSearchGraph};
+ghost use Rattle.helix_relations.specs.Asking.{Begins};
+ghost use Rattle.helix_relations.specs.Pieces.{IsRegionPiece};
+ghost use Rattle.helix_rows.specs.Regions as pieces;
+ghost use Rattle.helix_rows.specs.Regions.{piece, Continues};
 ghost use Rattle.helix_relations.specs.Rows.{IsForestOf, IsGoodRow, HasFixed, IsInSomeRow, IsFirstOfTree};
 
 use crate::graph::HasGraph;
@@ -52,4 +56,17 @@ pub fn searched_cells_of_a_region<G: HasGraph>()
         → BeginsWith region prefix level row → (depth : ℕ) → length region.fields ≤ depth → (v : Cell)
         → Extends (G.graph search) (fixed_by region prefix level) depth None level v
         ↔ ExtendsTo region prefix level v }
+{}
+
+/// The pieces of a region are the cells of its rows at its fields: a row is one of the region exactly where its cells
+/// there are a piece, some row begins with a prefix exactly where the prefix's cells begin a piece, and a cell extends
+/// the prefix to a row exactly where they continue with it to a piece.
+pub fn pieces_of_a_region()
+    ensures rows { (region : RegionContent) → IsRegion region → (row : List Cell)
+        → IsRegionPiece region (piece (numbers_of region.fields) row) ↔ IsRegionRow region row }
+    ensures begins { (region : RegionContent) (prefix : List Cell) (level : ℕ) → Begins region prefix level
+        ↔ pieces.Begins (IsRegionPiece region) (piece (take level (numbers_of region.fields)) prefix) }
+    ensures extends { (region : RegionContent) (prefix : List Cell) (level : ℕ) → level < length region.fields
+        → (v : Cell) → ExtendsTo region prefix level v
+        ↔ Continues (IsRegionPiece region) (piece (take level (numbers_of region.fields)) prefix) v }
 {}

@@ -24,10 +24,10 @@ use std::marker::Model;
 /// asked.
 #[derive(Drop)]
 pub struct Region {
-    nodes: Vec<PartNode>,
-    relations: List<SignedRelation>,
-    levels: Vec<Level>,
-    asked: u64,
+    pub(crate) nodes: Vec<PartNode>,
+    pub(crate) relations: List<SignedRelation>,
+    pub(crate) levels: Vec<Level>,
+    pub(crate) asked: u64,
 }
 
 impl Model for Region {

@@ -12,7 +12,7 @@ use std::marker::Model;
 /// Regions in order, of which one at a time is lent for writing.
 #[derive(Drop)]
 pub struct Regions {
-    items: Vec<Region>,
+    pub(crate) items: Vec<Region>,
 }
 
 impl Model for Regions {

@@ -1,29 +1,44 @@
 -- One region of several that is asked for its least cell.
 use Rattle.std.proofs.Common.{◌≡◌, ◌↔◌, ◌⊎◌, inl, inr, ℕ, ◌+◌, ◌<◌, ◌≤◌, List, [], ◌∷◌, ◌++◌, take, drop, length, slice_index_or, slice_set, refl, sym, ◌∙◌, ap, subst, arith}
-use Rattle.std.proofs.lemmas.List.{get_or_default, take_more, take-append-drop}
-use Rattle.std.proofs.lemmas.List.Elements.{All-contains, Contains-append_left, Contains-push, Contains-get_or}
+use Rattle.std.proofs.lemmas.List.{get_or_default, length-append, take_more, take-append-drop}
+use Rattle.std.proofs.lemmas.List.Elements.{Contains-append_left, Contains-get_or}
 use Rattle.std.proofs.lemmas.List.Sums.{sum_by-set}
 use Rattle.std.specs.List.{All, Contains, sum_by}
 use Rattle.helix_base.specs.Steps.{Counted}
 use Rattle.helix_rows.proofs.Found.{IsBest, best_more}
 use Rattle.helix_rows.proofs.Regions.{kept_both, kept_one, has_new, has_old, over_new}
 use Rattle.helix_rows.specs.Inner.Answers.{Best, IsOffered, IsFound}
+use Rattle.helix_rows.specs.Inner.Cells.{CanBeAsked}
 use Rattle.helix_rows.specs.Inner.Levels.{KeepRegions}
 use Rattle.helix_rows.specs.Parts.{HasAt, IsInPart, IsRegionOver}
-use Rattle.helix_rows.specs.Regions.{piece, Continues, IsLeastOf, IsPieceOf, NoneFalls}
-use Rattle.helix_values.specs.Class.{AreComparable, AreComparableRows}
+use Rattle.helix_rows.specs.Regions.{cell_at, class_at, piece, AreCellsTo, Continues, IsCellFor, IsLeastOf, IsPieceOf, NoneFalls}
+use Rattle.helix_values.specs.Class.{Class, AreComparable, AreComparableRows}
+use Rattle.helix_values.specs.Counts.{IsMarkOf}
 use Rattle.helix_values.specs.Slot.{FitsSlot}
 use Rattle.helix_values.specs.declared.cell.Cell.{Cell}
+use Rattle.helix_values.specs.declared.mark.Mark.{Mark}
 
 pub comparable_cells : (cells : List Cell) (c d : Cell) (rest other : List Cell)
     → AreComparableRows ((cells ++ c ∷ []) ++ rest) ((cells ++ d ∷ []) ++ other) → AreComparable c d
 comparable_cells [] c d rest other rows = rows.0
 comparable_cells (x ∷ cells) c d rest other rows = comparable_cells cells c d rest other rows.1
 
-pub fits_cell : (cells : List Cell) (c : Cell) (rest : List Cell) → All FitsSlot ((cells ++ c ∷ []) ++ rest) → FitsSlot c
-fits_cell cells c rest fit =
-    All-contains FitsSlot ((cells ++ c ∷ []) ++ rest) c fit
-    (Contains-append_left (cells ++ c ∷ []) rest c (Contains-push cells c))
+-- a cell after some others is the one in its place
+pub cell_after : (cells : List Cell) (c : Cell) (rest : List Cell)
+    → cell_at ((cells ++ c ∷ []) ++ rest) (length cells) ≡ c
+cell_after [] c rest = refl
+cell_after (x ∷ cells) c rest = cell_after cells c rest
+
+pub piece_cell : (fields : List ℕ) (classes : List Class) (cells : List Cell) (c : Cell) (rest : List Cell)
+    → IsPieceOf fields classes ((cells ++ c ∷ []) ++ rest) → IsCellFor (class_at classes (length cells)) c
+piece_cell fields classes cells c rest piece =
+    subst (IsCellFor (class_at classes (length cells))) (cell_after cells c rest)
+    (piece.each (length cells) (omega (
+      arith,
+      piece.count,
+      length-append (cells ++ c ∷ []) rest,
+      length-append cells (c ∷ []),
+    )))
 
 pub steps_both : (old mid new : Counted) → NoneFalls old mid → NoneFalls mid new → NoneFalls old new
 steps_both old mid new first second = record {
@@ -67,14 +82,16 @@ module _ {R : Type 0} (F : R → List ℕ) (Has : R → List Cell → Type 0) wh
   }
 
   -- a cell that a row of regions goes on with fits a slot
-  pub fits_found : ((r : R) (cells : List Cell) → Has r cells → IsPieceOf (F r) cells) → (regions : List R)
-      (numbers : List ℕ) (cells : List Cell) (c : Cell) → Continues (IsInPart (HasAt Has regions) numbers) cells c
-      → FitsSlot c
+  pub fits_found : {C : R → List Class} → ((r : R) (cells : List Cell) → Has r cells → IsPieceOf (F r) (C r) cells)
+      → (regions : List R) (numbers : List ℕ) (cells : List Cell) (c : Cell)
+      → Continues (IsInPart (HasAt Has regions) numbers) cells c → FitsSlot c
   fits_found shaped regions numbers cells c goes =
       let d : R = some_region regions goes.has.number goes.has.has.within in
-      fits_cell cells c goes.rest (shaped _ _ (goes.has.has.has d)).fit
+      (piece_cell (F (slice_index_or regions goes.has.number d)) _ cells c goes.rest
+      (shaped _ _ (goes.has.has.has d))).1
 
-  module _ (initial current : List R) (kept : KeepRegions F Has initial current) (among wanted : List ℕ)
+  module _ {C : R → List Class} {A : R → ℕ} (initial current : List R) (kept : KeepRegions F C A Has initial current)
+      (among wanted : List ℕ)
       (over : All (IsRegionOver F initial wanted) among) (index : ℕ) (within : index < length among) (d : R)
       (got : d ≡ slice_index_or current (slice_index_or among index 0) d)
       (row : List Cell) (position own_position : ℕ) (positions : own_position ≡ position)
@@ -88,6 +105,25 @@ module _ {R : Type 0} (F : R → List ℕ) (Has : R → List Cell → Type 0) wh
     cells_are = ap (λ p. piece (take p (F d)) row) positions
         ∙ ap (λ fs. piece (take position fs) row) (ap F got ∙ own.over d)
 
+    -- the region can be asked now too
+    classes_are : C d ≡ C (slice_index_or initial (slice_index_or among index 0) d)
+    classes_are = ap C got ∙ kept.classes (slice_index_or among index 0) d (over index 0 within).within
+
+    pub before_now : (mark : Mark) → All (CanBeAsked C initial wanted position row mark) among
+        → AreCellsTo own_position (F d) (C d) row
+    unfolding classes_are own
+    before_now mark askable =
+        subst (λ p. AreCellsTo p (F d) (C d) row) (sym positions)
+        (subst (λ fs. AreCellsTo position fs (C d) row) (sym (ap F got ∙ own.over d))
+        (subst (λ cs. AreCellsTo position wanted cs row) (sym classes_are) ((askable index 0 within).before d)))
+
+    pub mark_now : (mark : Mark) → All (CanBeAsked C initial wanted position row mark) among
+        → IsMarkOf (class_at (C d) own_position) mark
+    unfolding classes_are
+    mark_now mark askable =
+        subst (λ p. IsMarkOf (class_at (C d) p) mark) (sym positions)
+        (subst (λ cs. IsMarkOf (class_at cs position) mark) (sym classes_are) ((askable index 0 within).within d))
+
     -- what the region goes on with, the region at the start goes on with
     at_start : (c : Cell) → Continues (Has d)
         (piece (take own_position (F d)) row) c
@@ -95,12 +131,14 @@ module _ {R : Type 0} (F : R → List ℕ) (Has : R → List Cell → Type 0) wh
     at_start c goes = record {
       rest = goes.rest;
       has = has_old F Has initial current kept (slice_index_or among index 0) _
-          (has_at current (slice_index_or among index 0) d _ own.within (subst (λ r. Has r ((piece (take position wanted) row ++ c ∷ []) ++ goes.rest)) got
+          (has_at current (slice_index_or among index 0) d _ own.within
+          (subst (λ r. Has r ((piece (take position wanted) row ++ c ∷ []) ++ goes.rest)) got
           (subst (λ cs. Has d ((cs ++ c ∷ []) ++ goes.rest))
           cells_are goes.has)));
     }
 
-    back : (c : Cell) → Continues (HasAt Has initial (slice_index_or among index 0)) (piece (take position wanted) row) c
+    back : (c : Cell) → Continues (HasAt Has initial (slice_index_or among index 0))
+        (piece (take position wanted) row) c
         → Continues (Has d)
         (piece (take own_position (F d)) row) c
     back c goes = record {
@@ -120,13 +158,18 @@ module _ {R : Type 0} (F : R → List ℕ) (Has : R → List Cell → Type 0) wh
         by : (ns : List ℕ) → best.numbers ≡ ns → (best.numbers ≡ []) ⊎ AreComparable c best.cell
         by [] e = inl e
         by (m ∷ ns) e =
-            let found : IsFound (HasAt Has initial) (take index among) (piece (take position wanted) row) Admitted best =
+            let found : IsFound (HasAt Has initial) (take index among) (piece (take position wanted) row) Admitted
+            best =
             is.found (λ empty. cons_nil m ns (sym e ∙ empty)) in
             let first = at_start c goes in
             let second = found.least.has in
             inr (comparable_cells (piece (take position wanted) row) c best.cell first.rest second.rest
             (comparable _ _
-            (record { number = slice_index_or among index 0; listed = Contains-get_or among index 0 within; has = first.has })
+            (record {
+              number = slice_index_or among index 0;
+              listed = Contains-get_or among index 0 within;
+              has = first.has;
+            })
             (record {
               number = second.has.number;
               listed = contains_taken among index second.has.number second.has.listed;
@@ -145,13 +188,16 @@ module _ {R : Type 0} (F : R → List ℕ) (Has : R → List Cell → Type 0) wh
         at_start back offered))
 
     -- the region's question keeps the regions
-    pub kept_next : (region : R) → F region ≡ F d
+    pub kept_next : (region : R) → F region ≡ F d → C region ≡ C d → A d ≤ A region
         → ((cells : List Cell) → Has region cells ↔ Has d cells)
-        → KeepRegions F Has initial (slice_set current (slice_index_or among index 0) region)
-    kept_next region fields rows =
+        → KeepRegions F C A Has initial (slice_set current (slice_index_or among index 0) region)
+    kept_next region fields classes asked rows =
         kept_both F Has initial current _ kept
         (kept_one F Has current (slice_index_or among index 0) region own.within
         (λ e. (fields ∙ ap F got) ∙ ap F (get_or_default current (slice_index_or among index 0) d e own.within))
+        (λ e. (classes ∙ ap C got) ∙ ap C (get_or_default current (slice_index_or among index 0) d e own.within))
+        (λ e. subst (λ r. A r ≤ A region)
+        (got ∙ get_or_default current (slice_index_or among index 0) d e own.within) asked)
         (λ e cells. subst (λ r. Has region cells ↔ Has r cells)
         (get_or_default current (slice_index_or among index 0) d e own.within)
         (subst (λ r. Has region cells ↔ Has r cells) got (rows cells))))
@@ -162,4 +208,10 @@ module _ {R : Type 0} (F : R → List ℕ) (Has : R → List Cell → Type 0) wh
         → sum_by asked current ≤ sum_by asked initial + index
         → sum_by asked (slice_set current (slice_index_or among index 0) region) ≤ sum_by asked initial + (index + 1)
     asked_next asked region once before =
-        omega (arith, subst (λ r. asked region ≤ asked r + 1) got once, before, sum_by-set asked current (slice_index_or among index 0) region d own.within)
+        omega (
+          arith,
+          subst (λ r. asked region ≤ asked r + 1) got once,
+          before,
+          sum_by-set asked current
+              (slice_index_or among index 0) region d own.within,
+        )

@@ -4,18 +4,21 @@ use Rattle.std.proofs.lemmas.List.{append-nil, take_all, get_or_default, length-
 use Rattle.std.proofs.lemmas.List.Elements.{Contains-get_or, All-replicate}
 use Rattle.std.specs.List.{All}
 use Rattle.helix_rows.proofs.Asked.{some_region}
-use Rattle.helix_rows.proofs.Climbing.{member_goes, alive_now}
+use Rattle.helix_rows.proofs.Climbing.{member_goes}
+use Rattle.helix_rows.proofs.Kept.{alive_now}
 use Rattle.helix_rows.proofs.Levels.{up_to_is}
 use Rattle.helix_rows.proofs.Regions.{has_new, in_parts_to}
 use Rattle.helix_rows.proofs.Rising.{least_row, next_row, changed_new}
 use Rattle.helix_rows.specs.Inner.Answers.{IsLeastAt, IsRaised}
+use Rattle.helix_rows.specs.Inner.Cells.{HasCells}
 use Rattle.helix_rows.specs.Inner.Levels.{part_at, level_of, part_of, AreAliveTo, AreBegunTo, IsLayout, IsReady, Agree}
 use Rattle.helix_rows.specs.Inner.Numbers.{Listed}
 use Rattle.helix_rows.specs.Inner.Places.{IsGiven, IsWalk, IsEmptyIf}
 use Rattle.helix_rows.specs.Parts.{HasAt, IsInPart, IsInParts, AreRegionsOf, KeepRegions, IsNextPlace}
-use Rattle.helix_rows.specs.Regions.{cell_at, number_at, piece, Begins, IsPieceOf}
+use Rattle.helix_rows.specs.Regions.{cell_at, number_at, piece, class_at, Begins, IsCellFor, IsPieceOf}
 use Rattle.helix_rows.specs.declared.layout.Layout.{Layout}
 use Rattle.helix_rows.specs.declared.part.Part.{Part}
+use Rattle.helix_values.specs.Class.{Class}
 use Rattle.helix_values.specs.Slot.{FitsSlot}
 use Rattle.helix_rows.specs.declared.walk.Place.{Place}
 use Rattle.helix_rows.specs.declared.walk.Place.TheVariants.{Nothing, Given}
@@ -30,9 +33,10 @@ member_begun H layout fields is row member field less =
     (sym (up_to_is layout fields is field less row))
     (member_goes H layout fields is field less row row member (λ f inside. refl))
 
-module _ {R : Type 0} (F : R → List ℕ) (Has : R → List Cell → Type 0)
-    (shaped : (r : R) (cells : List Cell) → Has r cells → IsPieceOf (F r) cells) (regions : List R) (layout : Layout)
-    (fields : ℕ) (is : IsLayout layout fields) (are : AreRegionsOf F Has regions layout.parts)
+module _ {R : Type 0} {C : R → List Class} (F : R → List ℕ) (Has : R → List Cell → Type 0)
+    (shaped : (r : R) (cells : List Cell) → Has r cells → IsPieceOf (F r) (C r) cells) (regions : List R)
+    (layout : Layout)
+    (fields : ℕ) (is : IsLayout layout fields) (are : AreRegionsOf F C Has regions layout.parts)
     (some : All (λ part. ¬ (part.regions ≡ [])) layout.parts) (row : List Cell)
     (begun : AreBegunTo (HasAt Has regions) layout row fields) where
   sized : (p : ℕ) → p < length layout.parts → (cells : List Cell)
@@ -40,7 +44,8 @@ module _ {R : Type 0} (F : R → List ℕ) (Has : R → List Cell → Type 0)
       → length cells ≡ length (part_at layout.parts p).fields
   sized p inside cells in_part =
       let d : R = some_region regions in_part.number in_part.has.within in
-      let over = are.over p (record { fields = []; regions = [] }) inside in_part.listed.0 in_part.number in_part.listed.1 in
+      let over = are.over p (record { fields = []; regions = [] }) inside in_part.listed.0 in_part.number
+      in_part.listed.1 in
       (shaped _ cells (in_part.has.has d)).count
       ∙ ap length (ap (λ n. F (slice_index_or regions n d)) (sym in_part.listed.2) ∙ over.over d)
 
@@ -66,13 +71,15 @@ module _ {R : Type 0} (F : R → List ℕ) (Has : R → List Cell → Type 0)
       let regions_of : List ℕ = (part_at layout.parts p).regions in
       let first : 0 < length (part_at layout.parts p).regions = not_empty _ (some p _ inside) in
       let one = are.rows p (record { fields = []; regions = [] }) inside 0 0 first in
-      whole p inside (piece (part_at layout.parts p).fields row) (length-map (part_at layout.parts p).fields (λ f. cell_at row f))
+      whole p inside (piece (part_at layout.parts p).fields row)
+      (length-map (part_at layout.parts p).fields (λ f. cell_at row f))
       (record {
         rest = one.0;
         has = record {
           number = slice_index_or (part_at layout.parts p).regions 0 0;
           listed = Contains-get_or (part_at layout.parts p).regions 0 0 first;
-          has = subst (λ fs. HasAt Has regions (slice_index_or (part_at layout.parts p).regions 0 0) (piece fs row ++ one.0))
+          has = subst (λ fs. HasAt Has regions (slice_index_or (part_at layout.parts p).regions 0 0)
+              (piece fs row ++ one.0))
               (sym (nil_from_length (part_at layout.parts p).fields count)) one.1;
         };
       })
@@ -99,13 +106,14 @@ module _ {R : Type 0} (F : R → List ℕ) (Has : R → List Cell → Type 0)
   }
 
   -- it is a given row for the regions after the questions
-  pub given_after : (now : List R) → KeepRegions F Has regions now → (alive : List Listed)
+  pub given_after : {A : R → ℕ} (now : List R) → KeepRegions F C A Has regions now → (alive : List Listed)
       → AreAliveTo (HasAt Has regions) layout row alive fields → length row ≡ fields
       → IsGiven (HasAt Has now) layout row alive Given
   unfolding begun_member
   given_after now kept alive are_alive long = (
     in_parts_to (HasAt Has regions) (HasAt Has now) (λ n cells. has_new F Has regions now kept n cells) (length row)
-        layout.parts row (subst (λ count. IsInParts (HasAt Has regions) count layout.parts row) (sym long) (begun_member long)),
+        layout.parts row (subst (λ count. IsInParts (HasAt Has regions) count layout.parts row) (sym long)
+        (begun_member long)),
     alive_now F Has regions now kept layout row alive (length row)
         (subst (λ end. AreAliveTo (HasAt Has regions) layout row alive end) (sym long) are_alive),
   )
@@ -137,22 +145,26 @@ next_from_row S count long old mid new field long_old long_mid long_new raised a
 }
 
 -- what a walk keeps, after questions
-pub walk_after : {R : Type 0} (F : R → List ℕ) (Has : R → List Cell → Type 0) (layout : Layout) (count : ℕ)
+pub walk_after : {R : Type 0} {C : R → List Class} (F : R → List ℕ)
+    (Has : R → List Cell → Type 0) (layout : Layout) (count : ℕ)
     → IsLayout layout count → (regions : List R) (alive : List Listed) (row : List Cell) (room : ℕ) (place : Place)
-    (empty : Bool) → length row ≡ count → IsReady F Has layout regions alive room (length row) → IsEmptyIf empty layout
-    → All FitsSlot row → IsGiven (HasAt Has regions) layout row alive place
-    → IsWalk F Has layout regions alive row room place empty
-walk_after F Has layout count is regions alive row room place empty long ready emptiness fit given = record {
+    (empty : Bool) → length row ≡ count → IsReady F C Has layout regions alive room (length row) → IsEmptyIf empty
+    layout
+    → All FitsSlot row → HasCells C regions layout row → IsGiven (HasAt Has regions) layout row alive place
+    → IsWalk F C Has layout regions alive row room place empty
+walk_after F Has layout count is regions alive row room place empty long ready emptiness fit cells given = record {
   layout_is = subst (λ n. IsLayout layout n) (sym long) is;
   ready = ready;
   emptiness = emptiness;
   fit = fit;
+  cells = cells;
   given = given;
 }
 
 -- a given row stays one for the regions after the questions
-pub given_stays : {R : Type 0} (F : R → List ℕ) (Has : R → List Cell → Type 0) (old new : List R)
-    → KeepRegions F Has old new → (layout : Layout) (row same_row : List Cell) (alive same_alive : List Listed)
+pub given_stays : {R : Type 0} {C : R → List Class} {A : R → ℕ} (F : R → List ℕ)
+    (Has : R → List Cell → Type 0) (old new : List R)
+    → KeepRegions F C A Has old new → (layout : Layout) (row same_row : List Cell) (alive same_alive : List Listed)
     → same_row ≡ row → same_alive ≡ alive → IsGiven (HasAt Has old) layout row alive Given
     → IsGiven (HasAt Has new) layout same_row same_alive Given
 given_stays F Has old new kept layout row same_row alive same_alive row_is alive_is given =
@@ -163,22 +175,35 @@ given_stays F Has old new kept layout row same_row alive same_alive row_is alive
       alive_now F Has old new kept layout row alive (length row) given.1,
     ))
 
+-- a row of nulls
+cell_of_nulls : (count field : ℕ) → cell_at (replicate count cell.Null) field ≡ cell.Null
+cell_of_nulls zero field = refl
+cell_of_nulls (suc count) zero = refl
+cell_of_nulls (suc count) (suc field) = cell_of_nulls count field
+
 -- a walk that is opened
-pub opened : {R : Type 0} (F : R → List ℕ) (Has : R → List Cell → Type 0) (layout : Layout) (fields : ℕ)
+pub opened : {R : Type 0} {C : R → List Class} (F : R → List ℕ)
+    (Has : R → List Cell → Type 0) (layout : Layout) (fields : ℕ)
     (regions : List R) (parts : List Part) (alive : List Listed) (most room : ℕ) (row : List Cell) (empty : Bool)
-    → IsLayout layout fields → layout.parts ≡ parts → AreRegionsOf F Has regions parts → length alive ≡ fields
+    → IsLayout layout fields → layout.parts ≡ parts → AreRegionsOf F C Has regions parts → length alive ≡ fields
     → All (λ listed. listed.room ≡ most) alive → All (λ listed. length listed.items ≤ listed.room) alive
     → All (λ part. length part.regions ≤ most) layout.parts
-    → ((bound : ℕ) → All (λ part. length part.regions ≤ bound) layout.parts → most ≤ bound) → room ≡ most → row ≡ replicate fields cell.Null
-    → IsEmptyIf empty layout → IsWalk F Has layout regions alive row room Nothing empty
-opened F Has layout fields regions parts alive most room row empty is parts_are are count rooms few enough least room_is row_is
+    → ((bound : ℕ) → All (λ part. length part.regions ≤ bound) layout.parts → most ≤ bound) → room ≡ most → row ≡
+    replicate fields cell.Null
+    → IsEmptyIf empty layout → IsWalk F C Has layout regions alive row room Nothing empty
+opened {C = C} F Has layout fields regions parts alive most room row empty is parts_are are count rooms few enough
+    least room_is row_is
     emptiness =
     let long : length row ≡ fields = ap length row_is ∙ length-replicate fields cell.Null in
     walk_after F Has layout fields is regions alive row room Nothing empty long (record {
-      are = subst (AreRegionsOf F Has regions) (sym parts_are) are;
+      are = subst (AreRegionsOf F C Has regions) (sym parts_are) are;
       count = count ∙ sym long;
       rooms = subst (λ r. All (λ listed. listed.room ≡ r) alive) (sym room_is) rooms;
       few = few;
       enough = subst (λ r. All (λ part. length part.regions ≤ r) layout.parts) (sym room_is) enough;
       least = λ bound all. subst (λ r. r ≤ bound) (sym room_is) (least bound all);
-    }) emptiness (subst (All FitsSlot) (sym row_is) (All-replicate FitsSlot fields cell.Null tt)) tt
+    }) emptiness (subst (All FitsSlot) (sym row_is) (All-replicate FitsSlot fields cell.Null tt))
+    (subst (HasCells C regions layout) (sym row_is) (λ field less number listed. record {
+      is = λ d. subst (IsCellFor (class_at (C (slice_index_or regions number d)) (level_of layout field).position))
+          (sym (cell_of_nulls fields field)) (tt, tt);
+    })) tt

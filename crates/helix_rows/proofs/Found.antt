@@ -11,7 +11,8 @@ use Rattle.helix_values.specs.Order.{CellLess}
 use Rattle.helix_values.specs.declared.cell.Cell.{Cell}
 
 -- what is found among the regions asked so far
-pub record IsBest (H : ℕ → List Cell → Type 0) (cells : List Cell) (Admitted : Cell → Type 0) (asked : List ℕ) (best : Best) : Type 0 where
+pub record IsBest (H : ℕ → List Cell → Type 0) (cells : List Cell) (Admitted : Cell → Type 0) (asked : List ℕ)
+    (best : Best) : Type 0 where
   pub none : best.numbers ≡ [] → HasNone (Continues (IsInPart H asked) cells) Admitted
   pub found : ¬ (best.numbers ≡ []) → IsFound H asked cells Admitted best
   pub only : (n : ℕ) → Contains best.numbers n → Contains asked n

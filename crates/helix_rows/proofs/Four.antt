@@ -1,12 +1,12 @@
 -- The parts and regions of the tests.
-use Rattle.std.proofs.Common.{◌≡◌, ◌⊎◌, inl, inr, ℕ, ℤ, zero, suc, ◌<◌, List, [], ◌∷◌, ◌++◌, length, slice_index_or, Option, None, Some, refl, sym, ◌∙◌, ap, subst, arith}
+use Rattle.std.proofs.Common.{◌≡◌, ◌⊎◌, inl, inr, ℕ, ℤ, zero, suc, ◌<◌, List, [], ◌∷◌, ◌++◌, length, slice_index_or, Option, refl, sym, ◌∙◌, ap, subst, arith}
 use Rattle.std.proofs.lemmas.List.Elements.{All-cons, All-nil}
 use Rattle.std.proofs.lemmas.List.Kept.{AllPairs-cons}
 use Rattle.std.specs.List.{All, AllPairs, Any, Contains}
-use Rattle.helix_rows.specs.Inner.Listing.{cell_or_null, cells_of, AreFour, IsListed, IsSecond}
-use Rattle.helix_rows.specs.Parts.{ArePartsOf, AreRegionsOf, HasAt, IsInPart, IsRegionOver}
+use Rattle.helix_rows.specs.Inner.Listing.{cells_of, AreFour, IsListed, IsSecond}
+use Rattle.helix_rows.specs.Parts.{ArePartsOf, AreRegionsOf, HasAt, HasClasses, IsRegionOver}
 use Rattle.helix_rows.specs.declared.part.Part.{Part}
-use Rattle.helix_values.specs.Class.{AreComparable, AreComparableRows}
+use Rattle.helix_values.specs.Class.{Class, numbers}
 use Rattle.helix_values.specs.declared.cell.Cell.{Cell}
 
 all_two : {X : Type 0} (P : X → Type 0) (a b : X) → P a → P b → All P (a ∷ b ∷ [])
@@ -32,9 +32,12 @@ parts_four first second = record {
   ascending = all_two (λ part. AllPairs (λ a b. a < b) part.fields) (part_with 0 2 first) (part_with 1 3 second)
       (pairs_two (λ a b. a < b) 0 2 (omega arith)) (pairs_two (λ a b. a < b) 1 3 (omega arith));
   within = all_two (λ part. All (λ field. field < 4) part.fields) (part_with 0 2 first) (part_with 1 3 second)
-      (all_two (λ field. field < 4) 0 2 (omega arith) (omega arith)) (all_two (λ field. field < 4) 1 3 (omega arith) (omega arith));
-  disjoint = pairs_two (λ a b. (field : ℕ) → Contains a.fields field → ¬ (Contains b.fields field)) (part_with 0 2 first)
-      (part_with 1 3 second) (λ field in_first in_second. apart field (contains_two 0 2 field in_first) (contains_two 1 3 field in_second));
+      (all_two (λ field. field < 4) 0 2 (omega arith) (omega arith))
+      (all_two (λ field. field < 4) 1 3 (omega arith) (omega arith));
+  disjoint = pairs_two (λ a b. (field : ℕ) → Contains a.fields field → ¬ (Contains b.fields field))
+      (part_with 0 2 first)
+      (part_with 1 3 second) (λ field in_first in_second. apart field (contains_two 0 2 field in_first)
+      (contains_two 1 3 field in_second));
   covered = covers;
 }
   where
@@ -63,17 +66,19 @@ module _ {R : Type 0} (F : R → List ℕ) (Has : R → List Cell → Type 0) wh
       (cells, record { within = within; has = λ d. subst (λ q. Has q cells) (sym (is d)) has })
 
   pub regions_four : (regions : List R) → AreFour F Has regions
-      → ((r s : R) (a b : List Cell) → Has r a → Has s b → AreComparableRows a b) → (second : List ℕ) → IsSecond second
-      → AreRegionsOf F Has regions (record { fields = 0 ∷ 2 ∷ []; regions = 0 ∷ 1 ∷ [] }
+      → (second : List ℕ) → IsSecond second
+      → AreRegionsOf F (λ r. numbers ∷ numbers ∷ []) Has regions (record { fields = 0 ∷ 2 ∷ []; regions = 0 ∷ 1 ∷ [] }
       ∷ record { fields = 1 ∷ 3 ∷ []; regions = second } ∷ [])
   unfolding part_with
-  regions_four regions four comparable second is =
+  regions_four regions four second is =
       let long : 4 ≡ length regions = sym (ap length four.are) in
       let at : (n : ℕ) (d : R) → slice_index_or regions n d
       ≡ slice_index_or (four.first ∷ four.second ∷ four.third ∷ four.fourth ∷ []) n d =
       λ n d. ap (λ l. slice_index_or l n d) four.are in
-      let over_third = over_at regions (1 ∷ 3 ∷ []) 2 four.third (omega (arith, long)) (λ d. at 2 d) four.fields_third in
-      let over_fourth = over_at regions (1 ∷ 3 ∷ []) 3 four.fourth (omega (arith, long)) (λ d. at 3 d) four.fields_fourth in
+      let over_third = over_at regions (1 ∷ 3 ∷ []) 2 four.third (omega (arith, long)) (λ d. at 2 d)
+      four.fields_third in
+      let over_fourth = over_at regions (1 ∷ 3 ∷ []) 3 four.fourth (omega (arith, long)) (λ d. at 3 d)
+      four.fields_fourth in
       let row_third = row_at regions 2 four.third (omega (arith, long)) (λ d. at 2 d) four.row_third in
       let row_fourth = row_at regions 3 four.fourth (omega (arith, long)) (λ d. at 3 d) four.row_fourth in
       record {
@@ -89,28 +94,16 @@ module _ {R : Type 0} (F : R → List ℕ) (Has : R → List Cell → Type 0) wh
             (row_at regions 0 four.first (omega (arith, long)) (λ d. at 0 d) four.row_first)
             (row_at regions 1 four.second (omega (arith, long)) (λ d. at 1 d) four.row_second))
             (in_second second is (λ number. (cells : List Cell) × HasAt Has regions number cells) row_third row_fourth);
-        comparable = all_two (λ part. (a b : List Cell) → IsInPart (HasAt Has regions) part.regions a
-            → IsInPart (HasAt Has regions) part.regions b → AreComparableRows a b) (part_with 0 2 (0 ∷ 1 ∷ []))
-            (part_with 1 3 second)
-            (λ a b in_a in_b. comparable _ _ a b (in_a.has.has four.first) (in_b.has.has four.first))
-            (λ a b in_a in_b. comparable _ _ a b (in_a.has.has four.first) (in_b.has.has four.first));
+        classes = all_two (λ part. (classes : List Class)
+            × All (HasClasses (λ r. numbers ∷ numbers ∷ []) regions classes) part.regions)
+            (part_with 0 2 (0 ∷ 1 ∷ [])) (part_with 1 3 second)
+            (numbers ∷ numbers ∷ [], λ k d inside. record { are = λ d. refl })
+            (numbers ∷ numbers ∷ [], λ k d inside. record { are = λ d. refl });
       }
     where
-      in_second : (numbers : List ℕ) → IsSecond numbers → (P : ℕ → Type 0) → P 2 → P 3 → All P numbers
-      in_second numbers (inl e) P two three = subst (All P) (sym e) (All-nil P)
-      in_second numbers (inr e) P two three = subst (All P) (sym e) (all_two P 2 3 two three)
-
-comparable_values : (x y : Option ℤ) → AreComparable (cell_or_null x) (cell_or_null y)
-comparable_values None None = refl
-comparable_values None (Some n) = refl
-comparable_values (Some m) None = refl
-comparable_values (Some m) (Some n) = refl
-
-pub comparable_pairs : (pairs others : List (Option ℤ × Option ℤ)) (a b : List Cell) → IsListed pairs a → IsListed others b
-    → AreComparableRows a b
-comparable_pairs pairs others a b first second =
-    subst (λ r. AreComparableRows r b) (sym first.are) (subst (λ r. AreComparableRows (cells_of first.pair) r) (sym second.are)
-    (comparable_values first.pair.0 second.pair.0, (comparable_values first.pair.1 second.pair.1, tt)))
+      in_second : (ns : List ℕ) → IsSecond ns → (P : ℕ → Type 0) → P 2 → P 3 → All P ns
+      in_second ns (inl e) P two three = subst (All P) (sym e) (All-nil P)
+      in_second ns (inr e) P two three = subst (All P) (sym e) (all_two P 2 3 two three)
 
 pub some_row : (pairs : List (Option ℤ × Option ℤ)) → ¬ (pairs ≡ []) → (cells : List Cell) × IsListed pairs cells
 some_row [] not = absurd (not refl)

@@ -31,13 +31,15 @@ any_more P parts n d inside none not (k, part, less, is, holds) =
 
 -- one more level
 pub levels_more : (parts : List Part) (levels : List Level) (count : ℕ) (level : Level) → length levels ≡ count
-    → ((field : ℕ) → field < count → IsLevel parts field (slice_index_or levels field (record { part = 0; position = 0 })))
+    → ((field : ℕ) → field < count → IsLevel parts field (slice_index_or levels field
+    (record { part = 0; position = 0 })))
     → IsLevel parts count level → (field : ℕ) → field < count + 1
     → IsLevel parts field (slice_index_or (levels ++ level ∷ []) field (record { part = 0; position = 0 }))
 levels_more parts levels count level long are is field less =
     place field count
     (λ before. subst (IsLevel parts field)
-    (sym (get_or_append_left levels (level ∷ []) (record { part = 0; position = 0 }) field (omega (arith, before, long))))
+    (sym (get_or_append_left levels (level ∷ []) (record { part = 0; position = 0 }) field
+    (omega (arith, before, long))))
     (are field before))
     (λ e. subst (IsLevel parts field)
     (sym (get_or_push levels level (record { part = 0; position = 0 }) field (long ∙ sym e)))
@@ -65,8 +67,10 @@ module _ (layout : Layout) (fields : ℕ) (parts : ArePartsOf fields layout.part
     there : Contains (part_at layout.parts (level_of layout (number_at (part_at layout.parts p).fields i)).part).fields
         (number_at (part_at layout.parts p).fields i)
     unfolding here
-    there = subst (λ f. Contains (part_at layout.parts (level_of layout (number_at (part_at layout.parts p).fields i)).part).fields f)
-        here.is (Contains-get_or _ (level_of layout (number_at (part_at layout.parts p).fields i)).position 0 here.position)
+    there = subst (λ f. Contains (part_at layout.parts (level_of layout
+        (number_at (part_at layout.parts p).fields i)).part).fields f)
+        here.is (Contains-get_or _ (level_of layout (number_at (part_at layout.parts p).fields i)).position 0
+        here.position)
 
     same_part : (level_of layout (number_at (part_at layout.parts p).fields i)).part ≡ p
     unfolding here contained there
@@ -81,7 +85,8 @@ module _ (layout : Layout) (fields : ℕ) (parts : ArePartsOf fields layout.part
     position_by at same is =
         let inner_at : at.position < length (part_at layout.parts p).fields =
         subst (λ q. at.position < length (part_at layout.parts q).fields) same is.position in
-        let field_at : number_at (part_at layout.parts p).fields at.position ≡ number_at (part_at layout.parts p).fields i =
+        let field_at : number_at (part_at layout.parts p).fields at.position ≡ number_at
+        (part_at layout.parts p).fields i =
         subst (λ q. number_at (part_at layout.parts q).fields at.position ≡ number_at (part_at layout.parts p).fields i)
         same is.is in
         place at.position i

@@ -2,12 +2,13 @@
 use Rattle.std.proofs.Common.{◌≡◌, ◌⊎◌, inl, inr, ℕ, ℤ, ◌+◌, ◌<◌, Bool, true, false, List, [], ◌∷◌, ◌++◌, take, length, slice_index_or, slice_set, Option, None, Some, refl, sym, ◌∙◌, ap, subst, ⊎_elim}
 use Rattle.std.proofs.lemmas.List.{take_more, get_or-set_same}
 use Rattle.std.proofs.lemmas.List.Elements.{Contains-append_left, Contains-push, Contains-push_cases}
-use Rattle.helix_rows.proofs.Asked.{fits_cell}
+use Rattle.helix_rows.proofs.Asked.{piece_cell}
 use Rattle.helix_rows.proofs.CellOrder.{less_less, not_itself}
 use Rattle.helix_rows.specs.Inner.Answers.{IsMarkFor}
 use Rattle.helix_rows.specs.Inner.Listing.{cell_or_null, cells_of, GoesOn, IsListed, IsOnly, IsTaken, pairs_shaped}
 use Rattle.helix_rows.specs.Regions.{cell_at, piece, Continues, IsAskedFor, IsLeastOf}
 use Rattle.helix_rows.specs.declared.region.Question.{Question}
+use Rattle.helix_values.specs.Class.{numbers}
 use Rattle.helix_values.specs.Marks.{IsAdmitted}
 use Rattle.helix_values.specs.Order.{CellLess}
 use Rattle.helix_values.specs.Slot.{FitsSlot}
@@ -26,8 +27,11 @@ module _ (P N Q : Cell → Type 0) (mark : Mark) (from : (c : Cell) → Q c → 
     least = λ other has admitted less. ⊎_elim (λ p. before.least other p admitted less)
         (λ n. none other n admitted) (from other has);
   }
-  stays false first old none before =
-      (before.0, λ other has admitted. ⊎_elim (λ p. before.1 other p admitted) (λ n. none other n admitted) (from other has))
+  stays false first old none before = (
+    before.0,
+    λ other has admitted. ⊎_elim (λ p. before.1 other p admitted) (λ n. none other n admitted)
+        (from other has),
+  )
 
   changes : (found : Bool) (first old c : Cell) → N c → ((d : Cell) → N d → d ≡ c) → IsAdmitted mark c
       → (found ≡ false) ⊎ CellLess c old → IsLeastAnswer P mark found first old → IsLeastAdmitted Q mark c
@@ -73,7 +77,8 @@ module _ (P N Q : Cell → Type 0) (mark : Mark) (from : (c : Cell) → Q c → 
 
 -- the pairs that are listed
 module _ (pairs : List (Option ℤ × Option ℤ)) (pair : Option ℤ × Option ℤ) (cells : List Cell) (c : Cell) where
-  pub listed_from : Continues (IsListed (pairs ++ pair ∷ [])) cells c → Continues (IsListed pairs) cells c ⊎ GoesOn pair cells c
+  pub listed_from : Continues (IsListed (pairs ++ pair ∷ [])) cells c → Continues (IsListed pairs) cells c ⊎ GoesOn
+      pair cells c
   listed_from is = ⊎_elim
       (λ old. inl (record { rest = is.rest; has = record { pair = is.has.pair; listed = old; are = is.has.are } }))
       (λ same. inr (record { rest = is.rest; has = is.has.are ∙ ap cells_of (sym same) }))
@@ -82,7 +87,11 @@ module _ (pairs : List (Option ℤ × Option ℤ)) (pair : Option ℤ × Option 
   pub listed_old : Continues (IsListed pairs) cells c → Continues (IsListed (pairs ++ pair ∷ [])) cells c
   listed_old is = record {
     rest = is.rest;
-    has = record { pair = is.has.pair; listed = Contains-append_left pairs (pair ∷ []) is.has.pair is.has.listed; are = is.has.are };
+    has = record {
+      pair = is.has.pair;
+      listed = Contains-append_left pairs (pair ∷ []) is.has.pair is.has.listed;
+      are = is.has.are;
+    };
   }
 
   pub listed_new : GoesOn pair cells c → Continues (IsListed (pairs ++ pair ∷ [])) cells c
@@ -137,4 +146,5 @@ pub best_fits : (pairs : List (Option ℤ × Option ℤ)) (cells : List Cell) (m
 best_fits pairs cells mark found is first best answer =
     let least : IsLeastAdmitted (Continues (IsListed pairs) cells) mark best =
     subst (λ f. IsLeastAnswer (Continues (IsListed pairs) cells) mark f first best) is answer in
-    fits_cell cells best least.has.rest (pairs_shaped 0 0 pairs _ least.has.has).fit
+    (piece_cell (0 ∷ 0 ∷ []) (numbers ∷ numbers ∷ []) cells best least.has.rest
+    (pairs_shaped 0 0 pairs _ least.has.has)).1

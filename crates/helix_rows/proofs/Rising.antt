@@ -17,7 +17,8 @@ use Rattle.helix_values.specs.declared.cell.Cell.{Cell}
 
 -- equal heads leave the rest
 pub then_rest : (a b : Cell) (xs ys : List Cell) → a ≡ b → row_cmp (a ∷ xs) (b ∷ ys) ≡ row_cmp xs ys
-then_rest a b xs ys same = ap (λ o. ordering_then o (row_cmp xs ys)) (subst (λ c. cell_cmp a c ≡ Equal) same (tied_itself cell_cmp_total a))
+then_rest a b xs ys same = ap (λ o. ordering_then o (row_cmp xs ys))
+    (subst (λ c. cell_cmp a c ≡ Equal) same (tied_itself cell_cmp_total a))
 
 -- a lesser head is enough
 pub then_head : (a b : Cell) (xs ys : List Cell) → CellLess a b → RowLess (a ∷ xs) (b ∷ ys)
@@ -39,7 +40,14 @@ first_change (a ∷ xs) (b ∷ ys) long less = by (λ same below. first_change x
 
     by : (length xs ≡ length ys → RowLess xs ys → (field : ℕ) × IsFirstChange field xs ys) → (o : Ordering)
         → cell_cmp a b ≡ o → (field : ℕ) × IsFirstChange field (a ∷ xs) (b ∷ ys)
-    by later Less is = (0, record { within = omega (arith, long); same = λ f inside. absurd (omega (arith, inside)); above = is })
+    by later Less is = (
+      0,
+      record {
+        within = omega (arith, long);
+        same = λ f inside. absurd (omega (arith, inside));
+        above = is;
+      },
+    )
     by later Equal is =
         let same : a ≡ b = same_cell a b is in
         let rest = later (omega (arith, long)) (sym (then_rest a b xs ys same) ∙ less) in (
@@ -95,17 +103,20 @@ module _ (In : List Cell → Type 0) (count : ℕ) (long : (row : List Cell) →
       changed_at row other change.0 count agree change.1 (omega (arith, change.1.within, long other member))
 
   pub last_down : (row : List Cell) (field : ℕ) → length row ≡ count → IsLastFrom In row (field + 1)
-      → ((other : List Cell) → In other → Agree field other row → ¬ (CellLess (cell_at row field) (cell_at other field)))
+      → ((other : List Cell) → In other → Agree field other row → ¬
+      (CellLess (cell_at row field) (cell_at other field)))
       → IsLastFrom In row field
   last_down row field is last none other member agree less =
       let change = first_change row other (is ∙ sym (long other member)) less in
       place change.0 field (λ before. changed_at row other change.0 field agree change.1 before)
       (λ at. none other member agree (subst (λ f. CellLess (cell_at row f) (cell_at other f)) at change.1.above))
       (λ after. last other member
-      (agree_back (field + 1) row other (agree_less change.0 (field + 1) row other (omega (arith, after)) change.1.same)) less)
+      (agree_back (field + 1) row other (agree_less change.0 (field + 1) row other (omega (arith, after))
+      change.1.same)) less)
 
   pub last_at : (row : List Cell) (field : ℕ) → length row ≡ count
-      → ((other : List Cell) → In other → Agree field other row → ¬ (CellLess (cell_at row field) (cell_at other field)))
+      → ((other : List Cell) → In other → Agree field other row → ¬
+      (CellLess (cell_at row field) (cell_at other field)))
       → ((other : List Cell) → In other → Agree field other row → ¬ (cell_at other field ≡ cell_at row field))
       → IsLastFrom In row field
   last_at row field is none different other member agree less =
@@ -170,5 +181,6 @@ module _ (In : List Cell → Type 0) (count : ℕ) (long : (row : List Cell) →
                 (subst (λ f. CellLess (cell_at old f) (cell_at other f)) at first.above)
                 (subst (λ c. CellLess (cell_at other field) c) (agree field (omega arith)) here.above))
                 (λ after. raised.last other inside
-                (agree_back (field + 1) old other (agree_less m (field + 1) old other (omega (arith, after)) first.same))
+                (agree_back (field + 1) old other (agree_less m (field + 1) old other (omega (arith, after))
+                first.same))
                 above)

@@ -2,9 +2,9 @@
 use Rattle.std.specs.Prelude.{◌≡◌, ◌↔◌, ℕ, ◌+◌, ◌*◌, ◌<◌, ◌≤◌, List, Option, None, Some, length, slice_index_or}
 use Rattle.std.specs.List.{All, Any, AllPairs, Contains, sum_by}
 use Rattle.helix_profile.specs.Answer.{IsAbove}
-use Rattle.helix_rows.specs.Regions.{piece, IsFirstChange}
+use Rattle.helix_rows.specs.Regions.{piece, AreCellsTo, IsFirstChange}
 use Rattle.helix_rows.specs.declared.part.Part.{Part}
-use Rattle.helix_values.specs.Class.{AreComparableRows}
+use Rattle.helix_values.specs.Class.{Class}
 use Rattle.helix_values.specs.Order.{RowLess}
 use Rattle.helix_values.specs.declared.cell.Cell.{Cell}
 
@@ -45,20 +45,38 @@ pub record IsRegionOver {R : Type 0} (fields_of : R → List ℕ) (regions : Lis
   pub within : number < length regions
   pub over : (d : R) → fields_of (slice_index_or regions number d) ≡ wanted
 
--- each region of a part is over the part's fields and has a row, and the rows of a part can be compared
-pub record AreRegionsOf {R : Type 0} (fields_of : R → List ℕ) (Has : R → List Cell → Type 0) (regions : List R)
-    (parts : List Part) : Type 0 where
+-- the region with the number has these classes
+pub record HasClasses {R : Type 0} (classes_of : R → List Class) (regions : List R) (classes : List Class)
+    (number : ℕ) : Type 0 where
+  pub are : (d : R) → classes_of (slice_index_or regions number d) ≡ classes
+
+-- each region of a part is over the part's fields and has a row, and the regions of a part have the same classes
+pub record AreRegionsOf {R : Type 0} (fields_of : R → List ℕ) (classes_of : R → List Class)
+    (Has : R → List Cell → Type 0) (regions : List R) (parts : List Part) : Type 0 where
   pub over : All (λ part. All (IsRegionOver fields_of regions part.fields) part.regions) parts
   pub rows : All (λ part. All (λ number. (cells : List Cell) × HasAt Has regions number cells) part.regions) parts
-  pub comparable : All (λ part. (a b : List Cell) → IsInPart (HasAt Has regions) part.regions a
-      → IsInPart (HasAt Has regions) part.regions b → AreComparableRows a b) parts
+  pub classes : All (λ part. (classes : List Class) × All (HasClasses classes_of regions classes) part.regions) parts
 
--- the questions changed no region's fields or rows
-pub record KeepRegions {R : Type 0} (fields_of : R → List ℕ) (Has : R → List Cell → Type 0)
-    (old new : List R) : Type 0 where
+-- the row's cells of some fields are cells for the classes of the region with this number
+pub record HasCellsOf {R : Type 0} (classes_of : R → List Class) (regions : List R) (fields : List ℕ)
+    (row : List Cell) (number : ℕ) : Type 0 where
+  pub are : (d : R) → AreCellsTo (length fields) fields (classes_of (slice_index_or regions number d)) row
+
+-- in each part, the row's cells are cells for the classes of the part's regions
+abbrev pub IsRowFor : {R : Type 0} → (R → List Class) → List R → List Part → List Cell → Type 0
+IsRowFor classes_of regions parts row =
+    All (λ part. All (HasCellsOf classes_of regions part.fields row) part.regions) parts
+
+-- the questions changed no region's fields, classes or rows, and lowered no region's number of questions
+pub record KeepRegions {R : Type 0} (fields_of : R → List ℕ) (classes_of : R → List Class) (asked_of : R → ℕ)
+    (Has : R → List Cell → Type 0) (old new : List R) : Type 0 where
   pub count : length new ≡ length old
   pub fields : (n : ℕ) (d : R) → n < length old
       → fields_of (slice_index_or new n d) ≡ fields_of (slice_index_or old n d)
+  pub classes : (n : ℕ) (d : R) → n < length old
+      → classes_of (slice_index_or new n d) ≡ classes_of (slice_index_or old n d)
+  pub asked : (n : ℕ) (d : R) → n < length old
+      → asked_of (slice_index_or old n d) ≤ asked_of (slice_index_or new n d)
   pub rows : (n : ℕ) (d : R) (cells : List Cell) → n < length old
       → Has (slice_index_or new n d) cells ↔ Has (slice_index_or old n d) cells
 
@@ -96,9 +114,9 @@ pub record IsAtEnd (In : List Cell → Type 0) (old new : Option (List Cell)) : 
   pub place : new ≡ old
   pub none : (row : List Cell) → In row → ¬ (IsAbove old row)
 
--- a call changed the place, and no part, no region's fields and no row
-pub record KeepsParts {R : Type 0} (fields_of : R → List ℕ) (Has : R → List Cell → Type 0)
-    (old new : Walk R) : Type 0 where
+-- a call changed the place and the number of questions, which fell for no region, and nothing else
+pub record KeepsParts {R : Type 0} (fields_of : R → List ℕ) (classes_of : R → List Class) (asked_of : R → ℕ)
+    (Has : R → List Cell → Type 0) (old new : Walk R) : Type 0 where
   pub parts : new.parts ≡ old.parts
   pub fields : new.fields ≡ old.fields
-  pub regions : KeepRegions fields_of Has old.regions new.regions
+  pub regions : KeepRegions fields_of classes_of asked_of Has old.regions new.regions

@@ -1,11 +1,15 @@
 -- Rows of some fields, the cells that go on from their first ones, and the least of these.
 use Rattle.std.specs.Prelude.{◌≡◌, ℕ, ◌<◌, ◌≤◌, Bool, true, false, List, [], ◌∷◌, ◌++◌, map, length, slice_index_or}
-use Rattle.std.specs.List.{All}
 use Rattle.helix_base.specs.Steps.{Counted}
+use Rattle.helix_values.specs.Class.{Class, booleans}
+use Rattle.helix_values.specs.Counts.{IsMarkBound}
 use Rattle.helix_values.specs.Order.{CellLess}
 use Rattle.helix_values.specs.Slot.{FitsSlot}
+use Rattle.helix_values.specs.View.{cell_of}
 use Rattle.helix_values.specs.declared.cell.Cell.{Cell}
 use Rattle.helix_values.specs.declared.cell.Cell.TheVariants as cell
+use Rattle.helix_values.specs.declared.mark.Mark.{Mark}
+use Rattle.helix_values.specs.declared.mark.Mark.TheVariants as mark
 use Rattle.helix_rows.specs.declared.region.Question.{Question}
 use Rattle.helix_rows.specs.declared.region.Question.TheVariants.{Start, At, After}
 
@@ -21,10 +25,29 @@ number_at numbers index = slice_index_or numbers index 0
 abbrev pub piece : List ℕ → List Cell → List Cell
 piece fields row = map (λ field. cell_at row field) fields
 
--- cells, one for each field, that fit slots
-pub record IsPieceOf (fields : List ℕ) (cells : List Cell) : Type 0 where
+-- the class in a place of a list of classes
+abbrev pub class_at : List Class → ℕ → Class
+class_at classes index = slice_index_or classes index booleans
+
+-- null or a value of the class, a text over the alphabet, that fits a slot
+abbrev pub IsCellFor : Class → Cell → Type 0
+IsCellFor class value = IsMarkBound class value × FitsSlot value
+
+-- the row's cells of the first fields are cells for their classes
+abbrev pub AreCellsTo : ℕ → List ℕ → List Class → List Cell → Type 0
+AreCellsTo level fields classes row =
+    (index : ℕ) → index < level → IsCellFor (class_at classes index) (cell_at row (number_at fields index))
+
+-- the bound of a mark, if any, fits a slot
+abbrev pub FitsBound : Mark → Type 0
+FitsBound mark.Start = Unit {0}
+FitsBound (mark.At bound) = FitsSlot (cell_of bound)
+FitsBound (mark.After bound) = FitsSlot (cell_of bound)
+
+-- cells, one for each field, that are cells for the fields' classes
+pub record IsPieceOf (fields : List ℕ) (classes : List Class) (cells : List Cell) : Type 0 where
   pub count : length cells ≡ length fields
-  pub fit : All FitsSlot cells
+  pub each : (index : ℕ) → index < length fields → IsCellFor (class_at classes index) (cell_at cells index)
 
 -- the cells begin a row of a set
 pub record Begins (Has : List Cell → Type 0) (cells : List Cell) : Type 0 where

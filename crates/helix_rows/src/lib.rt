@@ -18,17 +18,21 @@
 //!   declared order of the fields. It answers the first field whose cell changed, and `None` exactly where no row of
 //!   the parts is above the place, which then stays.
 //! - [`RowWalk::seek_after`] makes any row the place.
-//! - No call changes the parts, the regions' fields or their rows.
+//! - No call changes the parts, the regions' fields, classes or rows, and no region's number of questions falls.
+//!
+//! A region has a class for each of its fields, and its rows have cells of these classes; the regions of one part have
+//! the same ones. A question needs such cells in the row, so a row that is sought needs them too.
 //!
 //! Only [`RowWalk::open`] takes memory. A region answers the least cell with which first cells of a row go on to one
 //! of its own; where one region is alive, a question is one call of [`Region::step`], in place.
 //!
-//! A step asks, of all regions together, at most three questions for each field and each region of the part that has
-//! the most, wherever the place is. The aim is two: a step from a given row, or from nothing, asks no more than that,
-//! but contracts don't see whether a place was given or sought, and after `seek_after` the walk follows the row down,
-//! turns upwards and then goes down, which takes up to three.
+//! A step asks, of all regions together, at most two questions for each field and each region of the part that has the
+//! most, wherever the place is. From a given row it goes up to the last field that can be raised, and down from there.
+//! After `seek_after` the first cells of the row may begin no row: then each field is looked at once on the way up, by
+//! [`Region::least`], which checks the cells before it.
 #![tactic(auto)]
 
+mod ask;
 mod climb;
 mod copy;
 mod follow;

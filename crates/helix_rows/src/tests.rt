@@ -1,7 +1,7 @@
 //! A walk over two parts of four fields, with lists of pairs as regions.
 
 ghost use Rattle.std.specs.Prelude.{◌≡◌, [], ◌∷◌, IfOk, All, length};
-ghost use Rattle.helix_rows.specs.Inner.Listing.{AreFour, IsListed, IsSecond};
+ghost use Rattle.helix_rows.specs.Inner.Listing.{AreFour, AreNumbers, AreOfTwo, IsListed, IsSecond};
 ghost use Rattle.helix_values.specs.Slot.{FitsSlot};
 
 mod pairs;
@@ -66,7 +66,8 @@ fn four(alloc: Global) -> Result<Vec<Pairs>, Memory>
 /// The walk over fields 0 and 2 with regions 0 and 1, and fields 1 and 3 with regions 2 and 3, or with none.
 fn walk(alloc: Global, second: &[u32]) -> Result<RowWalk<Pairs>, Memory>
     requires { IsSecond second.now }
-    ensures { IfOk result (λ walk. walk.fields ≡ 4) }
+    ensures fields { IfOk result (λ walk. walk.fields ≡ 4) }
+    ensures parts { IfOk result (λ walk. AreOfTwo walk.parts) }
 {
     let regions = four(alloc)?;
     let mut parts = List::new(alloc);
@@ -106,8 +107,10 @@ fn kept() -> [usize; 15] {
 fn fill(row: &mut RowBuf, cells: Four)
     requires count { length row.old ≡ 4 }
     requires fit { All FitsSlot row.old }
+    requires numbers { AreNumbers row.old }
     ensures count { length row.new ≡ 4 }
     ensures fit { All FitsSlot row.new }
+    ensures numbers { AreNumbers row.new }
 {
     for field in 0..4 {
         row.set(field, cell(cells[field]));
@@ -161,11 +164,13 @@ fn places() -> [(Four, usize); 14] {
     ]
 }
 
-/// Whether the walk gives the rows from a number on and then ends, the first one at 24 questions at most.
+/// Whether the walk gives the rows from a number on and then ends, each at 16 questions at most.
 fn goes_on_from(walk: &mut RowWalk<Pairs>, out: &mut RowBuf, next: usize) -> bool
     requires fields { walk.old.fields ≡ 4 }
+    requires parts { AreOfTwo walk.old.parts }
     requires count { length out.old ≡ 4 }
     ensures fields { walk.new.fields ≡ 4 }
+    ensures parts { AreOfTwo walk.new.parts }
     ensures count { length out.new ≡ 4 }
 {
     let mut steps = Steps::new(Quiet);
@@ -175,7 +180,7 @@ fn goes_on_from(walk: &mut RowWalk<Pairs>, out: &mut RowBuf, next: usize) -> boo
         if !walk.advance(out, &mut steps) || !has(out, rows[index]) {
             return false;
         }
-        if walk.asked().saturating_sub(asked) > 24 {
+        if walk.asked().saturating_sub(asked) > 16 {
             return false;
         }
     }

@@ -4,7 +4,7 @@ ghost use Rattle.std.specs.Prelude.{◌≡◌, ◌<◌, ◌≤◌, ℕ, ◌≢�
 ghost use Rattle.std.specs.List.{sum_by};
 ghost use Rattle.helix_base.specs.Count.{last_count};
 ghost use Rattle.helix_rows.specs.Regions.{NoneFalls};
-ghost use Rattle.helix_rows.specs.Parts.{AsksAtMost, InWalk, IsNextPlace, IsNextRow, IsAtEnd, KeepsParts, ArePartsOf, AreRegionsOf};
+ghost use Rattle.helix_rows.specs.Parts.{AsksAtMost, InWalk, IsNextPlace, IsNextRow, IsAtEnd, IsRowFor, KeepsParts, ArePartsOf, AreRegionsOf};
 ghost use Rattle.helix_rows.specs.Inner.Places.{IsWalk, place_of};
 ghost use Rattle.helix_values.specs.Slot.{FitsSlot};
 
@@ -55,8 +55,8 @@ impl<R: Region> Model for RowWalk<R> {
       place = place_of w.place w.state.row;
     } };
 
-    ghost invariant = { λ w. IsWalk R.fields R.HasRow w.layout w.state.regions.items w.state.alive.items w.state.row
-        w.state.found.numbers.room w.place w.empty };
+    ghost invariant = { λ w. IsWalk R.fields R.classes R.HasRow w.layout w.state.regions.items w.state.alive.items
+        w.state.row w.state.found.numbers.room w.place w.empty };
 }
 
 impl<R: Region + Drop> RowWalk<R> {
@@ -69,7 +69,7 @@ impl<R: Region + Drop> RowWalk<R> {
         fields: usize,
     ) -> Result<RowWalk<R>, Memory>
         requires parts { ArePartsOf fields parts }
-        requires regions { AreRegionsOf R.fields R.HasRow regions.items parts }
+        requires regions { AreRegionsOf R.fields R.classes R.HasRow regions.items parts }
         ensures { IfOk result (λ walk. walk ≡ record {
           parts = parts;
           regions = regions.items;
@@ -109,8 +109,8 @@ impl<R: Region> RowWalk<R> {
     pub fn step<L: Ledger>(&mut self, steps: &mut Steps<L>) -> Option<usize>
         ensures next { IfSome result (IsNextPlace (InWalk R.HasRow self.old) self.old.place self.new.place) }
         ensures end { IfNone result (IsAtEnd (InWalk R.HasRow self.old) self.old.place self.new.place) }
-        ensures parts { KeepsParts R.fields R.HasRow self.old self.new }
-        ensures asked { AsksAtMost R.asked 3 self.old self.new.regions }
+        ensures parts { KeepsParts R.fields R.classes R.asked R.HasRow self.old self.new }
+        ensures asked { AsksAtMost R.asked 2 self.old self.new.regions }
         ensures steps { NoneFalls steps.old.counts steps.new.counts }
     {
         if self.empty {
@@ -152,8 +152,8 @@ impl<R: Region> RowWalk<R> {
             × IsNextRow (InWalk R.HasRow self.old) self.old.place out.new }
         ensures end { result ≡ false → (out.new ≡ out.old)
             × IsAtEnd (InWalk R.HasRow self.old) self.old.place self.new.place }
-        ensures parts { KeepsParts R.fields R.HasRow self.old self.new }
-        ensures asked { AsksAtMost R.asked 3 self.old self.new.regions }
+        ensures parts { KeepsParts R.fields R.classes R.asked R.HasRow self.old self.new }
+        ensures asked { AsksAtMost R.asked 2 self.old self.new.regions }
         ensures steps { NoneFalls steps.old.counts steps.new.counts }
     {
         match self.step(steps) {
@@ -165,11 +165,12 @@ impl<R: Region> RowWalk<R> {
         }
     }
 
-    /// Makes any row of as many fields the place, whether it is in the parts or not. It asks no question and takes no
-    /// memory.
+    /// Makes any row of as many fields the place, whether it is in the parts or not. Its cells are null or of the
+    /// classes of the regions of their parts. It asks no question and takes no memory.
     pub fn seek_after(&mut self, row: &RowBuf)
         requires count { length row.now ≡ self.old.fields }
         requires fit { All FitsSlot row.now }
+        requires cells { IsRowFor R.classes self.old.regions self.old.parts row.now }
         ensures { self.new ≡ record {
           parts = self.old.parts;
           regions = self.old.regions;

@@ -7,10 +7,9 @@ use Rattle.helix_search.specs.declared.level.Level.{Level}
 use Rattle.helix_search.specs.Extending.{Graph, HasPartner, Extends}
 use Rattle.helix_search.specs.Nodes.{cell_in, fixed_of}
 use Rattle.helix_relations.specs.declared.signed.SignedRelation.{SignedRelation}
-use Rattle.helix_relations.specs.Region.{BeginsWith, ExtendsTo}
-use Rattle.helix_relations.specs.RegionGraph.{number_of, fixed_by}
+use Rattle.helix_relations.specs.RegionGraph.{number_of, graph_of, fixed_by}
 use Rattle.helix_relations.specs.SearchGraph.{IsRelated}
-use Rattle.helix_relations.specs.SearchLaws.{search_is_exact}
+use Rattle.helix_relations.specs.SearchLaws.{search_extends}
 use Rattle.helix_relations.specs.Inner.Parts.{PartNode, content_of}
 use Rattle.helix_relations.specs.Inner.PartLaws.{number_at}
 use Rattle.helix_relations.specs.Inner.Kept.{IsKept}
@@ -48,17 +47,18 @@ module _ (ns : List PartNode) (rels : List SignedRelation) (levels : List Level)
           ∙ ap (λ n. Some (cell_at row n)) (sym (number_at ns c (some_node ns c below) below))
       by false e = refl
 
-  -- so what a search through the nodes finds at a related field are the cells that extend to rows
-  pub nodes_are_exact : IsRelated (content_of ns rels asked) level → (other : List Cell)
-      → BeginsWith (content_of ns rels asked) row level other → (depth : ℕ)
-      → length (content_of ns rels asked).fields ≤ depth → (v : Cell)
-      → Extends (search_of ns) (fixed_of ns row level) depth None level v
-      ↔ ExtendsTo (content_of ns rels asked) row level v
-  nodes_are_exact related other begins depth enough v =
-      let exact = search_is_exact (content_of ns rels asked) kept.region (search_of ns)
-      (is_search_graph ns rels levels asked kept) row level related other begins depth enough v in (
-        (λ extends. exact.0 (same_fixed (search_of ns) (fixed_of ns row level)
-            (fixed_by (content_of ns rels asked) row level) fixed_alike depth None level v extends)),
-        (λ to. same_fixed (search_of ns) (fixed_by (content_of ns rels asked) row level) (fixed_of ns row level)
-            (λ c. sym (fixed_alike c)) depth None level v (exact.1 to)),
+  -- so the cells of a related field that extend in a search through the nodes are those that extend in the region
+  pub nodes_extend : ((u : ℕ) (v : Cell) → u < length (content_of ns rels asked).fields
+      → fixed_by (content_of ns rels asked) row level u ≡ Some v → (graph_of (content_of ns rels asked)).Has u v)
+      → (depth u : ℕ) → IsRelated (content_of ns rels asked) u → (v : Cell)
+      → Extends (search_of ns) (fixed_of ns row level) depth None u v
+      ↔ Extends (graph_of (content_of ns rels asked)) (fixed_by (content_of ns rels asked) row level) depth None u v
+  nodes_extend has depth u related v =
+      let both = search_extends (content_of ns rels asked) kept.region (search_of ns)
+      (is_search_graph ns rels levels asked kept) (fixed_by (content_of ns rels asked) row level) has depth u v related
+      in (
+        (λ extends. both.0 (same_fixed (search_of ns) (fixed_of ns row level)
+            (fixed_by (content_of ns rels asked) row level) fixed_alike depth None u v extends)),
+        (λ extends. same_fixed (search_of ns) (fixed_by (content_of ns rels asked) row level) (fixed_of ns row level)
+            (λ c. sym (fixed_alike c)) depth None u v (both.1 extends)),
       )

@@ -41,3 +41,7 @@ pub record IsAlone (node : PartNode) : Type 0 where
   pub kind : node.values.kind ≡ node.values.domain.field.kind
   pub nullable : node.values.nullable ≡ node.values.domain.field.nullable
   pub none : node.neighbours ≡ []
+
+-- the node knows whether its field is nullable
+abbrev pub KnowsNull : PartNode → Type 0
+KnowsNull node = node.values.nullable ≡ node.values.domain.field.nullable

@@ -8,6 +8,7 @@ use Rattle.helix_rows.specs.Regions.{cell_at, number_at, piece, Begins, Continue
 use Rattle.helix_rows.specs.declared.layout.Layout.{Layout}
 use Rattle.helix_rows.specs.declared.layout.Level.{Level}
 use Rattle.helix_rows.specs.declared.part.Part.{Part}
+use Rattle.helix_values.specs.Class.{Class}
 use Rattle.helix_values.specs.declared.cell.Cell.{Cell}
 
 -- the part with a number, the level of a field, and the field's part
@@ -94,9 +95,10 @@ abbrev pub Agree : ℕ → List Cell → List Cell → Type 0
 Agree end a b = (field : ℕ) → field < end → cell_at a field ≡ cell_at b field
 
 -- the regions are those of the parts, and each list of them has room for all of one part and no more
-pub record IsReady {R : Type 0} (fields_of : R → List ℕ) (Has : R → List Cell → Type 0) (layout : Layout)
-    (regions : List R) (alive : List Listed) (room fields : ℕ) : Type 0 where
-  pub are : AreRegionsOf fields_of Has regions layout.parts
+pub record IsReady {R : Type 0} (fields_of : R → List ℕ) (classes_of : R → List Class)
+    (Has : R → List Cell → Type 0) (layout : Layout) (regions : List R) (alive : List Listed) (room fields : ℕ) : Type
+    0 where
+  pub are : AreRegionsOf fields_of classes_of Has regions layout.parts
   pub count : length alive ≡ fields
   pub rooms : All (λ listed. listed.room ≡ room) alive
   pub few : All (λ listed. length listed.items ≤ listed.room) alive

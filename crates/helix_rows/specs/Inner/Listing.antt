@@ -1,11 +1,11 @@
 -- Rows of two cells in a list, as the tests have them.
-use Rattle.std.specs.Prelude.{◌≡◌, ◌⊎◌, ℕ, ℤ, Bool, true, false, List, [], ◌∷◌, Option, None, Some}
-use Rattle.std.proofs.Common.{refl, sym, subst}
-use Rattle.std.specs.List.{Contains}
-use Rattle.std.proofs.lemmas.List.Elements.{All-cons, All-nil}
-use Rattle.helix_rows.specs.Regions.{Continues, IsPieceOf}
+use Rattle.std.specs.Prelude.{◌≡◌, ◌⊎◌, ℕ, zero, suc, ◌<◌, ℤ, Bool, true, false, List, [], ◌∷◌, Option, None, Some, length}
+use Rattle.std.proofs.Common.{refl, sym, subst, arith}
+use Rattle.std.specs.List.{All, Contains}
+use Rattle.helix_rows.specs.declared.part.Part.{Part}
+use Rattle.helix_rows.specs.Regions.{cell_at, class_at, Continues, IsCellFor, IsPieceOf}
+use Rattle.helix_values.specs.Class.{numbers}
 use Rattle.helix_values.specs.Order.{CellLess}
-use Rattle.helix_values.specs.Slot.{FitsSlot}
 use Rattle.helix_values.specs.declared.cell.Cell.{Cell}
 use Rattle.helix_values.specs.declared.cell.Cell.TheVariants as cell
 
@@ -61,17 +61,31 @@ pub record AreFour {R : Type 0} (fields_of : R → List ℕ) (Has : R → List C
 
 -- the last two of them, or none
 abbrev pub IsSecond : List ℕ → Type 0
-IsSecond numbers = (numbers ≡ []) ⊎ (numbers ≡ 2 ∷ 3 ∷ [])
+IsSecond regions = (regions ≡ []) ⊎ (regions ≡ 2 ∷ 3 ∷ [])
+
+-- the cells of a row are numbers or null
+abbrev pub AreNumbers : List Cell → Type 0
+AreNumbers row = (field : ℕ) → IsCellFor numbers (cell_at row field)
+
+-- each part is of two fields
+abbrev pub AreOfTwo : List Part → Type 0
+AreOfTwo parts = All (λ part. length part.fields ≡ 2) parts
 
 -- they are cells of two fields
-pub fits : (value : Option ℤ) → FitsSlot (cell_or_null value)
-fits None = tt
-fits (Some n) = tt
+pub number_cell : (value : Option ℤ) → IsCellFor numbers (cell_or_null value)
+number_cell None = (tt, tt)
+number_cell (Some n) = (refl, tt)
+
+pub number_cells : (pair : Option ℤ × Option ℤ) (i : ℕ) → i < 2
+    → IsCellFor (class_at (numbers ∷ numbers ∷ []) i) (cell_at (cells_of pair) i)
+number_cells pair zero less = number_cell pair.0
+number_cells pair (suc zero) less = number_cell pair.1
+number_cells pair (suc (suc i)) less = absurd (omega (arith, less))
 
 pub pairs_shaped : (a b : ℕ) (pairs : List (Option ℤ × Option ℤ)) (cells : List Cell) → IsListed pairs cells
-    → IsPieceOf (a ∷ b ∷ []) cells
-pairs_shaped a b pairs cells listed = subst (λ cs. IsPieceOf (a ∷ b ∷ []) cs) (sym listed.are) (record {
-  count = refl;
-  fit = All-cons FitsSlot (cell_or_null listed.pair.0) (cell_or_null listed.pair.1 ∷ []) (fits listed.pair.0)
-      (All-cons FitsSlot (cell_or_null listed.pair.1) [] (fits listed.pair.1) (All-nil FitsSlot));
-})
+    → IsPieceOf (a ∷ b ∷ []) (numbers ∷ numbers ∷ []) cells
+pairs_shaped a b pairs cells listed = subst (λ cs. IsPieceOf (a ∷ b ∷ []) (numbers ∷ numbers ∷ []) cs)
+    (sym listed.are) (record {
+      count = refl;
+      each = λ i less. number_cells listed.pair i less;
+    })

@@ -1,12 +1,14 @@
 -- What a walk keeps.
 use Rattle.std.specs.Prelude.{◌≡◌, ℕ, Bool, true, false, List, [], Option, None, Some, length}
 use Rattle.std.specs.List.{All, Any}
+use Rattle.helix_rows.specs.Inner.Cells.{HasCells}
 use Rattle.helix_rows.specs.Inner.Levels.{AreAliveTo, IsLayout, IsReady}
 use Rattle.helix_rows.specs.Inner.Numbers.{Listed}
 use Rattle.helix_rows.specs.Parts.{HasAt, IsInParts}
 use Rattle.helix_rows.specs.declared.layout.Layout.{Layout}
 use Rattle.helix_rows.specs.declared.walk.Place.{Place}
 use Rattle.helix_rows.specs.declared.walk.Place.TheVariants.{Nothing, Sought, Given}
+use Rattle.helix_values.specs.Class.{Class}
 use Rattle.helix_values.specs.Slot.{FitsSlot}
 use Rattle.helix_values.specs.declared.cell.Cell.{Cell}
 
@@ -28,11 +30,13 @@ IsGiven Has layout row alive Sought = Unit {0}
 IsGiven Has layout row alive Given =
     IsInParts Has (length row) layout.parts row × AreAliveTo Has layout row alive (length row)
 
-pub record IsWalk {R : Type 0} (fields_of : R → List ℕ) (Has : R → List Cell → Type 0) (layout : Layout)
+pub record IsWalk {R : Type 0} (fields_of : R → List ℕ) (classes_of : R → List Class)
+    (Has : R → List Cell → Type 0) (layout : Layout)
     (regions : List R) (alive : List Listed) (row : List Cell) (room : ℕ) (place : Place)
     (empty : Bool) : Type 0 where
   pub layout_is : IsLayout layout (length row)
-  pub ready : IsReady fields_of Has layout regions alive room (length row)
+  pub ready : IsReady fields_of classes_of Has layout regions alive room (length row)
   pub emptiness : IsEmptyIf empty layout
   pub fit : All FitsSlot row
+  pub cells : HasCells classes_of regions layout row
   pub given : IsGiven (HasAt Has regions) layout row alive place

@@ -1,5 +1,6 @@
 //! A region that is a list of rows of two cells.
 
+ghost use Rattle.std.proofs.Common.{refl};
 ghost use Rattle.std.specs.Prelude.{◌≡◌, ◌↔◌, ◌<◌, [], ◌∷◌, List, IsTrue, length, take};
 ghost use Rattle.helix_rows.specs.Inner.Listing.{cell_or_null, GoesOn, IsListed, IsOnly, IsTaken, pairs_shaped};
 ghost use Rattle.helix_rows.specs.Regions.{number_at, piece};
@@ -118,8 +119,11 @@ fn take_less(next: Option<Option<i128>>, mark: Mark<'_>, found: bool, out: &mut 
 
 impl Region for Pairs {
     ghost use Rattle.helix_rows.specs.Inner.Listing.{IsListed};
+    ghost use Rattle.helix_values.specs.Class.{numbers};
 
     ghost fields = { λ r. r.fields.0 ∷ r.fields.1 ∷ [] };
+
+    ghost classes = { λ r. numbers ∷ numbers ∷ [] };
 
     ghost HasRow = { λ r. IsListed r.rows.items };
 
@@ -164,6 +168,8 @@ impl Region for Pairs {
     fn asked(&self) -> u64 {
         self.asked
     }
+
+    ghost classed = { λ r. refl };
 
     ghost shaped = { λ r cells listed. pairs_shaped r.fields.0 r.fields.1 r.rows.items cells listed };
 }

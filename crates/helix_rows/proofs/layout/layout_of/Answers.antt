@@ -25,7 +25,8 @@ loop-field-preserved c = record {
 
 pub returns-clause-layout : goal.returns-clause-layout
 returns-clause-layout c =
-    let end : c.loop-field.field ≡ c.args.fields = omega (arith, c.loop-field-test.false, c.loop-field.auto.field-end) in
+    let end : c.loop-field.field ≡ c.args.fields = omega (arith, c.loop-field-test.false, c.loop-field.auto.field-end)
+    in
     layout_is (record { parts = c.args.parts; levels = c.loop-field.levels }) c.args.fields c.requires
     (λ field less. c.loop-field.invariant.levels field (subst (λ n. field < n) (sym end) less))
     (c.loop-field.invariant.count ∙ end)

@@ -7,10 +7,12 @@ use Rattle.helix_rows.proofs.layout.most_regions.Goals as goal
 pub loop-part-preserved : goal.loop-part-preserved
 loop-part-preserved c = record {
   few =
-      All-more (λ part. length part.regions ≤ c.greater-most.result) c.args.parts.now c.loop-part.part-index c.part-item.result
+      All-more (λ part. length part.regions ≤ c.greater-most.result) c.args.parts.now c.loop-part.part-index
+      c.part-item.result
       c.loop-part-test.true
       (All-weaker (λ part. length part.regions ≤ c.loop-part.most) (λ part. length part.regions ≤ c.greater-most.result)
-      (λ part few. omega (arith, few, c.greater-most.ensures.first)) (take c.loop-part.part-index c.args.parts.now) c.loop-part.invariant.few)
+      (λ part few. omega (arith, few, c.greater-most.ensures.first)) (take c.loop-part.part-index c.args.parts.now)
+      c.loop-part.invariant.few)
       (subst (λ part. length part.regions ≤ c.greater-most.result) c.part-item.is
       (subst (λ regions. length regions ≤ c.greater-most.result) c.as_slice.ensures c.greater-most.ensures.second));
   least = λ bound all. c.greater-most.ensures.least bound (c.loop-part.invariant.least bound all)

@@ -10,7 +10,8 @@ use Rattle.helix_rows.proofs.offer.least_of.Given as goal
 
 abbrev pub invariant-loop-number : goal.invariant-loop-number
 invariant-loop-number g l = record {
-  kept : KeepRegions g.R.Region.fields g.R.Region.HasRow l.initial.regions.items l.regions.items;
+  kept : KeepRegions g.R.Region.fields g.R.Region.classes g.R.Region.asked g.R.Region.HasRow l.initial.regions.items
+      l.regions.items;
   best : IsBest (HasAt g.R.Region.HasRow l.initial.regions.items) (before_of l.layout l.field l.row) (IsAdmitted l.mark)
       (take l.number-index l.among) (best_of l.found);
   room : l.found.numbers.room ≡ l.initial.found.numbers.room;

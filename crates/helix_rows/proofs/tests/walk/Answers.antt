@@ -1,5 +1,5 @@
 use Rattle.std.proofs.Common.{[], ◌∷◌, sym, subst}
-use Rattle.helix_rows.proofs.Four.{parts_four, regions_four, comparable_pairs, parts_are}
+use Rattle.helix_rows.proofs.Four.{parts_four, regions_four, parts_are}
 use Rattle.helix_rows.specs.Inner.Listing.{IsListed}
 use Rattle.helix_rows.specs.Parts.{ArePartsOf, AreRegionsOf}
 use Rattle.helix_rows.proofs.tests.walk.Goals as goal
@@ -12,9 +12,8 @@ open-requires-clause-parts c =
 
 pub open-requires-clause-regions : goal.open-requires-clause-regions
 open-requires-clause-regions c =
-    subst (AreRegionsOf _ _ c.in_ok-regions.regions.items) (sym (parts_are c.new-parts.result c.push.new.self
+    subst (AreRegionsOf _ _ _ c.in_ok-regions.regions.items) (sym (parts_are c.new-parts.result c.push.new.self
     c.push-2.new.self c.in_ok-part.field-0 c.in_ok-part-2.field-0 (0 ∷ 1 ∷ []) c.args.second.now c.new-parts.ensures
     c.in_ok-push.ensures.ok c.in_ok-push-2.ensures.ok c.in_ok-part.ensures c.in_ok-part-2.ensures))
     (regions_four (λ r. r.fields.0 ∷ r.fields.1 ∷ []) (λ r. IsListed r.rows.items) c.in_ok-regions.regions.items
-    c.in_ok-regions.ensures (λ r s a b has also. comparable_pairs r.rows.items s.rows.items a b has also)
-    c.args.second.now c.requires)
+    c.in_ok-regions.ensures c.args.second.now c.requires)

@@ -12,5 +12,6 @@ invariant_of-result g c =
     (subst (All (λ part. length part.regions ≤ c.most_regions-room.result)) c.as_slice.ensures
     c.most_regions-room.ensures.few)
     (λ bound all. c.most_regions-room.ensures.least bound
-    (subst (All (λ part. length part.regions ≤ bound)) (sym c.as_slice.ensures) all)) (ap (λ n. n.room) c.in_ok-open.ensures) c.in_ok-row.ensures
+    (subst (All (λ part. length part.regions ≤ bound)) (sym c.as_slice.ensures) all))
+    (ap (λ n. n.room) c.in_ok-open.ensures) c.in_ok-row.ensures
     c.has_empty_part-empty.ensures

@@ -10,5 +10,6 @@ loop-pair-preserved g c =
     more_pairs c.as_slice-rows.result.now c.loop-pair.pair-index pair c.loop-pair-test.true
     (get_or_default c.as_slice-rows.result.now c.loop-pair.pair-index pair (None, None) c.loop-pair-test.true)
     (piece (take c.args.level (c.args.self.now.fields.0 ∷ c.args.self.now.fields.1 ∷ [])) c.args.prefix.now) c.args.mark
-    c.next_of-next.result c.next_of-next.ensures c.loop-pair.found c.take_less-found.result c.args.out.now c.loop-pair.out
+    c.next_of-next.result c.next_of-next.ensures c.loop-pair.found c.take_less-found.result c.args.out.now
+    c.loop-pair.out
     c.take_less-found.new.out c.take_less-found.ensures c.loop-pair.invariant

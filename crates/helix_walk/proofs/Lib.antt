@@ -1,0 +1,13 @@
+pub mod NextRows
+pub mod Listed
+pub mod CellsByField
+pub mod Constraints
+pub mod GoodRows
+pub mod OnePart
+pub mod SharedFields
+pub mod AllParts
+pub mod Classes
+pub mod WithNumbers
+pub mod Widest
+pub mod Kept
+pub mod Opened

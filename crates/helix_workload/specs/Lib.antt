@@ -1,0 +1,4 @@
+-- The generated profile.
+pub mod Workload
+-- The crate's inner words.
+pub mod Inner
