@@ -67,9 +67,18 @@ fn least_flags(rt: HostRuntime) -> Result<(), Fail> {
     let profile = one_flag(rt.alloc())?;
     let row = RowBuf::open(rt.alloc(), 1)?;
     let mut region = Region::open(rt.alloc(), &profile, &[0])?;
-    assert_eq!(rt; flag_from(&mut region, &row, Mark::Start), Some(Some(false)));
-    assert_eq!(rt; flag_from(&mut region, &row, Mark::At(CellRef::Null)), Some(None));
-    assert_eq!(rt; flag_from(&mut region, &row, Mark::After(CellRef::Null)), None);
+    assert_eq!(rt;
+        flag_from(&mut region, &row, Mark::Start),
+        Some(Some(false))
+    );
+    assert_eq!(rt;
+        flag_from(&mut region, &row, Mark::At(CellRef::Null)),
+        Some(None)
+    );
+    assert_eq!(rt;
+        flag_from(&mut region, &row, Mark::After(CellRef::Null)),
+        None
+    );
     region.forbid_null(0);
     assert_eq!(rt; flag_from(&mut region, &row, Mark::At(CellRef::Null)), None);
     region.only_null(0);
