@@ -1,0 +1,11 @@
+pub mod WholeFile
+pub mod Sending
+pub mod MostRows
+pub mod Handing
+pub mod RestRows
+pub mod FirstRow
+pub mod RowLists
+pub mod AllRows
+pub mod TextParts
+pub mod SentRows
+pub mod WholeRows
