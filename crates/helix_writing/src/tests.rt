@@ -12,7 +12,7 @@ use std::test::Fail;
 /// A profile of one nullable truth value: its good rows are false, true and null.
 fn one_flag(alloc: Global) -> Result<Profile, Memory> {
     let mut fields = Fields::new(alloc);
-    let name = Text::of(alloc, "flag")?;
+    let name = Text::of(alloc, "a")?;
     fields.push(Field {
         name,
         kind: Kind::Boolean,
@@ -54,23 +54,23 @@ fn held<'a>(disk: &'a MemoryDisk, name: &str) -> Option<&'a str> {
 #[test]
 fn rows_are_written_up_to_the_limit(rt: HostRuntime) -> Result<(), Fail> {
     let cases = [
-        (Format::Csv, 1, 1, true, "\"flag\"\nfalse\n"),
-        (Format::Csv, 2, 2, true, "\"flag\"\nfalse\ntrue\n"),
-        (Format::Csv, 3, 3, false, "\"flag\"\nfalse\ntrue\n\n"),
-        (Format::Csv, 4, 3, false, "\"flag\"\nfalse\ntrue\n\n"),
+        (Format::Csv, 1, 1, true, "\"a\"\nfalse\n"),
+        (Format::Csv, 2, 2, true, "\"a\"\nfalse\ntrue\n"),
+        (Format::Csv, 3, 3, false, "\"a\"\nfalse\ntrue\n\n"),
+        (Format::Csv, 4, 3, false, "\"a\"\nfalse\ntrue\n\n"),
         (
             Format::Json,
             2,
             2,
             true,
-            "[\n{\"flag\":false},\n{\"flag\":true}\n]\n",
+            "[\n{\"a\":false},\n{\"a\":true}\n]\n",
         ),
         (
             Format::Json,
             9,
             3,
             false,
-            "[\n{\"flag\":false},\n{\"flag\":true},\n{\"flag\":null}\n]\n",
+            "[\n{\"a\":false},\n{\"a\":true},\n{\"a\":null}\n]\n",
         ),
     ];
     for (format, limit, rows, cut, text) in cases {
@@ -95,7 +95,7 @@ fn a_call_that_fails_leaves_a_prefix(rt: HostRuntime) -> Result<(), Fail> {
     let cases = [
         (1, "o", false, None),
         (2, "o", false, Some("")),
-        (3, "o", false, Some("\"flag\"\nfalse\ntrue\n\n")),
+        (3, "o", false, Some("\"a\"\nfalse\ntrue\n\n")),
         (0, "p", false, Some("kept")),
         (1, "p", true, Some("kept")),
         (2, "p", true, Some("")),
