@@ -40,6 +40,7 @@ pub fn put_rows<D: Disk>(
         (line_for format true rows.old.profile.fields last.old) limit (D.state disk.old) block.old stop
         (D.state disk.new)) }
     ensures open { OnOk result (IsSome (D.state disk.new).output) }
+    ensures profile { OnOk result (rows.new.profile ≡ rows.old.profile) }
 {
     put_row(disk, format, last, true, 0, line, block)?;
     put_rest(disk, format, limit, rows, last, line, block)
@@ -89,6 +90,7 @@ fn put_rest<D: Disk>(
     ensures err { IfErr result (λ stop. StopsPutting format rows.old.profile last.old [] limit (D.state disk.old)
         block.old stop (D.state disk.new)) }
     ensures open { OnOk result (IsSome (D.state disk.new).output) }
+    ensures profile { OnOk result (rows.new.profile ≡ rows.old.profile) }
 {
     let count = put_most(disk, format, limit, rows, line, block)?;
     if count == limit {
@@ -129,6 +131,7 @@ fn put_most<D: Disk>(
     ensures err { IfErr result (λ stop. (row : List Cell) → StandsAt format rows.old line.old row
         → StopsPutting format rows.old.profile row [] limit (D.state disk.old) block.old stop (D.state disk.new)) }
     ensures open { OnOk result (IsSome (D.state disk.new).output) }
+    ensures profile { OnOk result (rows.new.profile ≡ rows.old.profile) }
     ensures fields { OnOk result (line.new.fields ≡ line.old.fields) }
 {
     let mut count = 1;

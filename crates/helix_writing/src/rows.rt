@@ -32,7 +32,8 @@ pub fn write_rows<D: Disk>(
     requires place { first ≡ true → rows.old.row ≡ Some last.old }
     requires good { first ≡ true → IsGood rows.old.profile last.old }
     requires none_owed { block.old ≡ [] }
-    ensures { (start : Option (List Cell)) → IsFirstAbove rows.old start last.old first
+    ensures profile { OnOk result (rows.new.profile ≡ rows.old.profile) }
+    ensures writes { (start : Option (List Cell)) → IsFirstAbove rows.old start last.old first
         → WritesRows file.entry rows.old.profile start (D.state disk.old) result last.new (D.state disk.new) }
 {
     disk.begin_write(file.name, file.replace)?;
@@ -62,6 +63,7 @@ fn send_rows<D: Disk>(
     ensures err { IfErr result (λ stop. (start : Option (List Cell)) → IsFirstAbove rows.old start last.old first
         → StopsSentRows file.entry rows.old.profile start (D.state disk.old) stop (D.state disk.new)) }
     ensures open { OnOk result (IsSome (D.state disk.new).output) }
+    ensures profile { OnOk result (rows.new.profile ≡ rows.old.profile) }
 {
     make_opening(line, file.format);
     block.add(disk, line.bytes())?;
@@ -101,6 +103,7 @@ fn put_some<D: Disk>(
     ensures err { IfErr result (λ stop. (start : Option (List Cell)) → IsFirstAbove rows.old start last.old first
         → StopsRows format rows.old.profile start limit (D.state disk.old) block.old stop (D.state disk.new)) }
     ensures open { OnOk result (IsSome (D.state disk.new).output) }
+    ensures profile { OnOk result (rows.new.profile ≡ rows.old.profile) }
 {
     if !first {
         return Ok(Written {
