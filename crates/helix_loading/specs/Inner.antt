@@ -1,0 +1,2 @@
+-- the stages of loading
+pub mod Stages
