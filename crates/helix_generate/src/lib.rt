@@ -22,3 +22,6 @@ mod preparing;
 mod resume;
 
 pub use generating::generate;
+
+#[cfg(test)]
+mod tests;
